@@ -1,0 +1,4 @@
+pub mod Kinds
+pub mod Info
+pub mod Heads
+pub mod Refusals
