@@ -2,7 +2,7 @@
 ghost use mathlib.Core.Path.{_≡_};
 ghost use mathlib.Core.Bool.{Bool, true};
 ghost use mathlib.Core.List.{List, []};
-ghost use Prim.Native.Nat.{ℕ};
+ghost use Prim.Native.Nat.{ℕ, _<_};
 ghost use lib.ListN.{length};
 ghost use Rattle.layout.specs.Kinds.{element-words};
 ghost use Rattle.elements.specs.Packing.{packed};
@@ -17,14 +17,16 @@ pub struct Element {
     words: [u32; 3],
 }
 
-// A type of elements means its words: unlike elements have unlike words, and all have equally many,
-// as many as the elements of each kind that it serves.
+// A type of elements means its words: unlike elements have unlike words, and all have equally many, at least
+// one, as many as the elements of each kind that it serves.
 pub trait ElementType {
     ghost meaning: { Self → List ℕ };
 
     ghost width: { ℕ };
 
     ghost serving: { kind-type → Bool };
+
+    law wide: { 0 < width };
 
     law counted: { (e : Self) → length (meaning e) ≡ width };
 

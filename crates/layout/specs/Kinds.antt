@@ -5,6 +5,8 @@ use Prim.Native.Nat.{ℕ}
 use lib.ListN.{getD}
 use Rattle.layout.specs.declared.kind.BtfKind.{BtfKind}
 use Rattle.layout.specs.declared.kind.BtfKind.the-variants.{Unknown, Int, Ptr, Array, Struct, Union, Enum, Fwd, Typedef, Volatile, Const, Restrict, Func, FuncProto, Var, DataSec, Float, DeclTag, TypeTag, Enum64}
+use Rattle.layout.specs.declared.pointer.PointerWidth.{PointerWidth}
+use Rattle.layout.specs.declared.pointer.PointerWidth.the-variants.{Four, Eight}
 use Rattle.layout.specs.declared.linkage.Linkage.{Linkage}
 use Rattle.layout.specs.declared.linkage.Linkage.the-variants.{Static, Global, Extern, Unstated}
 
@@ -165,3 +167,7 @@ linkage-number Static = 0
 linkage-number Global = 1
 linkage-number Extern = 2
 linkage-number Unstated = 3
+
+abbrev pub pointer-bytes : PointerWidth → ℕ
+pointer-bytes Four = 4
+pointer-bytes Eight = 8

@@ -4,6 +4,7 @@ pub mod error;
 pub mod head;
 pub mod kind;
 pub mod linkage;
+pub mod pointer;
 
 pub use declaration::Declaration;
 pub use error::Area;
@@ -11,3 +12,4 @@ pub use error::BtfError;
 pub use head::BtfType;
 pub use kind::BtfKind;
 pub use linkage::Linkage;
+pub use pointer::PointerWidth;

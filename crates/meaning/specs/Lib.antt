@@ -1,0 +1,4 @@
+pub mod Table
+pub mod Adding
+pub mod Questions
+pub mod File

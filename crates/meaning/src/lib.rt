@@ -1,0 +1,1 @@
+// The definitions of tables, and what is proved of them.
