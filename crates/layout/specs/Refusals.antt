@@ -50,3 +50,8 @@ said (NoSuchElement id element) = refusal 18 (Some id) (Some element) None
 abbrev pub told : {A B : Type 0} → (A → B) → Result A BtfError → Answer B
 told means (Ok a) = accepted (means a)
 told means (Err e) = refused (said e)
+
+-- what a check says, where it found a fault
+abbrev pub fault-said : Option BtfError → Option Refusal
+fault-said (Some e) = Some (said e)
+fault-said None = None

@@ -1,11 +1,11 @@
 -- Writing at a place, and writing on behind it.
 use mathlib.Core.Path.{_≡_, refl, ap, sym, _∙_}
-use mathlib.Core.List.{List, [], _∷_, _++_, append-assoc}
+use mathlib.Core.List.{List, [], _∷_, _++_, map, append-assoc}
 use Prim.Native.Nat.{ℕ, _+_, _-_, _<_, _≤_, min}
 use native.Mathlib.Omega.{arith}
 use native.Mathlib.Nat.{add-zero}
-use lib.ListN.{length, take, drop, set, getD, length-append, length-take, length-drop}
-use Rattle.std.proofs.shelf.Lists.{take-append-drop, set-at, drop-more, take-at, drop-at, append-nil, drop-drop, take-append-le, length-take-le, getD-default, drop-append-le}
+use lib.ListN.{length, take, drop, set, getD, length-append, length-take, length-drop, length-map}
+use Rattle.std.proofs.shelf.Lists.{take-append-drop, set-at, drop-more, take-at, drop-at, append-nil, drop-drop, take-append-le, length-take-le, getD-default, drop-append-le, map-more, take-all}
 use Rattle.meaning.specs.Adding.{over}
 
 module _ {X : Type 0} where
@@ -55,3 +55,21 @@ module _ {X : Type 0} where
       let flen : length (take at old ++ new) ≡ at + length new = simp (length-append, length-take) (omega arith) in
       ap (take (at + length new)) (sym (append-assoc (take at old) new (drop (at + length new) old))) ∙
       take-at (take at old ++ new) (drop (at + length new) old) (at + length new) flen
+
+-- the steps of a loop that writes what a function makes of each item
+module _ {X Y : Type 0} (f : Y → X) where
+  pub over-map-more : (ys : List Y) (i : ℕ) (y : Y) (x : X) (at : ℕ) (area old : List X) →
+      area ≡ over at (map f (take i ys)) old → i < length ys → y ≡ getD ys i y → x ≡ f y → at + length ys ≤ length old →
+      set area (at + i) x ≡ over at (map f (take (i + 1) ys)) old
+  over-map-more ys i y x at area old inv h read e room =
+      let new = map f (take i ys) in
+      let nlen : length new ≡ i = simp (length-map, length-take) (omega arith) in
+      let pushed : new ++ x ∷ [] ≡ map f (take (i + 1) ys) =
+          ap (λ z. new ++ z ∷ []) (e ∙ ap f read) ∙ sym (map-more f ys i y h) in
+      ap (λ l. set l (at + i) x) inv ∙
+      ap (λ n. set (over at new old) (at + n) x) (sym nlen) ∙
+      over-more at new x old (omega arith) ∙
+      ap (λ l. over at l old) pushed
+
+  pub over-map-all : (ys : List Y) (i at : ℕ) (area old : List X) → area ≡ over at (map f (take i ys)) old → length ys ≤ i → area ≡ over at (map f ys) old
+  over-map-all ys i at area old inv h = inv ∙ ap (λ l. over at (map f l) old) (take-all i ys h)

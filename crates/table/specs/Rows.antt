@@ -1,0 +1,26 @@
+-- What the rows of the two lent areas mean.
+use mathlib.Core.List.{List, map}
+use Prim.Native.Nat.{ℕ}
+use lib.ListN.{take, drop}
+use Rattle.layout.specs.Info.{kind-of, elements-of}
+use Rattle.layout.specs.Kinds.{element-words}
+use Rattle.elements.specs.declared.Element.{Element}
+use Rattle.meaning.specs.Table.{Decl}
+use Rattle.table.specs.declared.store.TypeRow.{TypeRow}
+
+-- the words of a kept element that a declaration with this info word has
+abbrev pub kept-words : ℕ → Element → List ℕ
+kept-words info e = take (element-words (kind-of info)) (e .words)
+
+-- a row's elements stand together, from its first
+abbrev pub row-tail : List Element → TypeRow → List (List ℕ)
+row-tail es row = map (kept-words (row .head .info)) (take (elements-of (row .head .info)) (drop (row .first) es))
+
+abbrev pub decl-of : List Element → TypeRow → Decl
+decl-of es row = record {
+  name = row .head .«name_offset»;
+  info = row .head .info;
+  third = row .head .«size_or_type»;
+  extra = row .head .extra;
+  tail = row-tail es row;
+}
