@@ -8,7 +8,8 @@ use mir.Val.{boolByte}
 use Rattle.std.proofs.shelf.Bits.{and-mask, or-shifted}
 use Rattle.layout.specs.declared.kind.BtfKind.{BtfKind}
 use Rattle.layout.specs.declared.kind.BtfKind.the-variants.{Unknown, Int, Ptr, Array, Struct, Union, Enum, Fwd, Typedef, Volatile, Const, Restrict, Func, FuncProto, Var, DataSec, Float, DeclTag, TypeTag, Enum64}
-use Rattle.layout.specs.Kinds.{kind-number}
+use Rattle.layout.specs.Kinds.{kind-number, kind-at}
+use Rattle.layout.specs.Info.{info-word, kind-of, low-of}
 
 -- two fields that do not overlap, at bits 31 and 24, over a low one
 fields : (f k low : ℕ) → f < 2 → k < 32 → low < 2 ^ 16 → bitOr (bitOr (f * 2 ^ 31) (k * 2 ^ 24)) low ≡ low + k * 2 ^ 24 + f * 2 ^ 31
@@ -57,3 +58,36 @@ info-built kind flag low k e r =
     ap (λ n. bitOr (bitOr (boolByte flag * 2 ^ 31) n) low) whole-kind ∙
     fields (boolByte flag) (kind-number kind) low bit (omega arith) r ∙
     ap (λ n. low + kind-number kind * 2 ^ 24 + n) (flag-word flag)
+
+kind-back : (kind : BtfKind) → kind-at (kind-number kind) ≡ kind
+kind-back Unknown = refl
+kind-back Int = refl
+kind-back Ptr = refl
+kind-back Array = refl
+kind-back Struct = refl
+kind-back Union = refl
+kind-back Enum = refl
+kind-back Fwd = refl
+kind-back Typedef = refl
+kind-back Volatile = refl
+kind-back Const = refl
+kind-back Restrict = refl
+kind-back Func = refl
+kind-back FuncProto = refl
+kind-back Var = refl
+kind-back DataSec = refl
+kind-back Float = refl
+kind-back DeclTag = refl
+kind-back TypeTag = refl
+kind-back Enum64 = refl
+
+-- an info word is read as it was built
+pub kind-built : (kind : BtfKind) (flag : Bool) (low : ℕ) → low < 2 ^ 16 → kind-of (info-word kind flag low) ≡ kind
+kind-built kind flag low h =
+    let small = kind-small kind in
+    let field : (low + kind-number kind * 2 ^ 24 + cond flag (2 ^ 31) 0) / 2 ^ 24 % 2 ^ 5 ≡ kind-number kind =
+        elim flag as (λ f. (low + kind-number kind * 2 ^ 24 + cond f (2 ^ 31) 0) / 2 ^ 24 % 2 ^ 5 ≡ kind-number kind) [ true ↦ omega arith | false ↦ omega arith ] in
+    ap kind-at field ∙ kind-back kind
+
+pub low-built : (kind : BtfKind) (flag : Bool) (low : ℕ) → low < 2 ^ 16 → low-of (info-word kind flag low) ≡ low
+low-built kind flag low h = elim flag as (λ f. low-of (info-word kind f low) ≡ low) [ true ↦ omega arith | false ↦ omega arith ]

@@ -20,25 +20,26 @@ use Rattle.table.specs.declared.store.Store.{Store}
 use Rattle.table.specs.Kept.{Kept, Placed, row-length, row-of, used-rows}
 use Rattle.table.proofs.Lengths.{length-bounded}
 
--- what `put_type` leaves
+-- a row put behind the others, with its elements
 pub record Put (s t : Store) (head : BtfType) (new : List Element) : Type 0 where
   pub types : t .types .now ≡ set (s .types .now) (s .«type_count») (row-of head (s .«element_count»))
   pub elements : t .elements .now ≡ over (s .«element_count») new (s .elements .now)
   pub type-count : t .«type_count» ≡ s .«type_count» + 1
   pub element-count : t .«element_count» ≡ s .«element_count» + length new
-  pub type-bytes : t .«type_bytes» ≡ s .«type_bytes» + type-length (head .info)
   pub string-len : t .«string_len» ≡ s .«string_len»
+
+-- the row stands behind the others
+pub rows-push : (s t : Store) (head : BtfType) (new : List Element) → Put s t head new → s .«type_count» < length (s .types .now) →
+    used-rows t ≡ used-rows s ++ row-of head (s .«element_count») ∷ []
+rows-push s t head new put row-room =
+    ap (λ n. take n (t .types .now)) (put .type-count) ∙
+    ap (take (s .«type_count» + 1)) (put .types) ∙
+    take-more-set (s .types .now) (s .«type_count») (row-of head (s .«element_count»)) row-room
 
 module _ (s t : Store) (head : BtfType) (new : List Element) (kept : Kept s) (put : Put s t head new)
     (row-room : s .«type_count» < length (s .types .now)) (few : s .«type_count» < most-decls)
     (room : s .«element_count» + length new ≤ length (s .elements .now)) (few-new : s .«element_count» + length new ≤ most-elements)
-    (suits : elements-of (head .info) ≡ length new) where
-  rows-push : used-rows t ≡ used-rows s ++ row-of head (s .«element_count») ∷ []
-  rows-push =
-      ap (λ n. take n (t .types .now)) (put .type-count) ∙
-      ap (take (s .«type_count» + 1)) (put .types) ∙
-      take-more-set (s .types .now) (s .«type_count») (row-of head (s .«element_count»)) row-room
-
+    (suits : elements-of (head .info) ≡ length new) (bytes : t .«type_bytes» ≡ s .«type_bytes» + type-length (head .info)) where
   placed-put : (k : ℕ) (d : TypeRow) → k < t .«type_count» → Placed (t .«element_count») (getD (t .types .now) k d)
   placed-put k d h =
       let row = row-of head (s .«element_count») in
@@ -68,7 +69,6 @@ module _ (s t : Store) (head : BtfType) (new : List Element) (kept : Kept s) (pu
       let bound = kept .bounded in
       let tc = put .type-count in
       let ec = put .element-count in
-      let tb = put .type-bytes in
       let sl = put .string-len in
       record {
         rows-within = omega arith;
@@ -77,6 +77,6 @@ module _ (s t : Store) (head : BtfType) (new : List Element) (kept : Kept s) (pu
         few-elements = omega arith;
         few-strings = omega arith;
         placed = placed-put;
-        counted = put .type-bytes ∙ ap (λ n. n + type-length (head .info)) (kept .counted) ∙ sym (ap (sumBy row-length) rows-push ∙ sumBy-push row-length (used-rows s) (row-of head (s .«element_count»)));
+        counted = bytes ∙ ap (λ n. n + type-length (head .info)) (kept .counted) ∙ sym (ap (sumBy row-length) (rows-push s t head new put row-room) ∙ sumBy-push row-length (used-rows s) (row-of head (s .«element_count»)));
         bounded = omega arith;
       }

@@ -1,6 +1,8 @@
 -- What a table keeps of its areas and counts.
 use mathlib.Core.Path.{_≡_}
-use mathlib.Core.List.{List}
+use mathlib.Core.List.{List, [], _∷_}
+use mathlib.Core.Bool.{Bool, _&&_}
+use lib.Dec.{ltb}
 use Prim.Native.Nat.{ℕ, _+_, _*_, _≤_, _<_}
 use lib.ListN.{length, take, getD}
 use Rattle.std.specs.shelf.Lists.{sumBy}
@@ -32,3 +34,10 @@ pub record Kept (s : Store) : Type 0 where
 
 abbrev pub row-of : BtfType → ℕ → TypeRow
 row-of head first = record { head = head; first = first }
+
+abbrev pub void-row : TypeRow
+void-row = row-of (record { «name_offset» = 0; info = 0; «size_or_type» = 0; extra = 0 ∷ 0 ∷ 0 ∷ [] }) 0
+
+-- whether areas of these lengths have room for id 0 and a zero byte
+abbrev pub holding : ℕ → ℕ → Bool
+holding types strings = ltb 0 types && ltb 0 strings

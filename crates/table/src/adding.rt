@@ -38,7 +38,7 @@ pub fn declaration_fault<E: ElementType>(declaration: &Declaration, count: usize
 // Puts the elements of a tail into the area, from `at` on: one text for every type of elements.
 pub fn put_tail<E: ElementType>(area: &mut [Element], at: usize, tail: &[E])
     requires { ⌜ at + length (now tail) ≤ length (now area) ⌝ }
-    ensures { λ _. ⌜ now (area .exit) ≡ over at (map (λ e. packed (meaning e)) (now (tail .entry))) (now (area .entry)) ⌝ }
+    ensures { λ _. ⌜ now (area .exit) ≡ over at (map packed (map meaning (now (tail .entry)))) (now (area .entry)) ⌝ }
 {
     for (i, element) in tail.iter().enumerate() {
         area[at + i] = element.pack();

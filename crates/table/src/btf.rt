@@ -11,7 +11,7 @@ use crate::store::Store;
 // with each call. The ghost fields are the parts of `Kept`.
 #[derive(Drop)]
 pub struct Btf<'a> {
-    store: Store<'a>,
+    pub(crate) store: Store<'a>,
     ghost within: { store .«type_count» ≤ length (store .types .now) },
     ghost few: { store .«type_count» ≤ 1048575 },
     ghost elementswithin: { store .«element_count» ≤ length (store .elements .now) },

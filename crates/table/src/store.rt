@@ -5,10 +5,10 @@ ghost use Prim.Native.Nat.{ℕ, _+_, _≤_, _<_};
 ghost use lib.ListN.{length, set};
 ghost use Rattle.layout.specs.Info.{elements-of};
 ghost use Rattle.layout.specs.Refusals.{fault-said};
-ghost use Rattle.elements.specs.Packing.{packed};
-ghost use Rattle.meaning.specs.Adding.{over, room-fault};
-ghost use Rattle.table.specs.Kept.{Kept, row-of};
-ghost use Rattle.table.specs.Tables.{table-of};
+ghost use Rattle.meaning.specs.Table.{holds};
+ghost use Rattle.meaning.specs.Adding.{room-fault};
+ghost use Rattle.table.specs.Kept.{Kept, row-of, void-row};
+ghost use Rattle.table.specs.Tables.{table-of, with-elements};
 use crate::adding::put_tail;
 use elements::Element;
 use elements::ElementType;
@@ -27,6 +27,21 @@ pub struct TypeRow {
     pub first: u32,
 }
 
+impl TypeRow {
+    // What fills an area before a table is made over it, and id 0.
+    pub fn empty() -> TypeRow
+        ensures { λ r. ⌜ r ≡ void-row ⌝ }
+    {
+        let head = BtfType {
+            name_offset: 0,
+            info: 0,
+            size_or_type: 0,
+            extra: [0, 0, 0],
+        };
+        TypeRow { head, first: 0 }
+    }
+}
+
 #[derive(Drop)]
 pub struct Store<'a> {
     pub types: &'a mut [TypeRow],
@@ -39,6 +54,14 @@ pub struct Store<'a> {
 }
 
 impl Store<'_> {
+    // Whether the table holds something and the string area has all its strings.
+    pub fn holds(&self, strings: &[u8]) -> bool
+        requires { ⌜ Kept (now self) ⌝ }
+        ensures { λ r. ⌜ r ≡ holds (table-of (now (self .entry)) (now (strings .entry))) ⌝ }
+    {
+        0 < self.type_count && self.string_len <= strings.len()
+    }
+
     // Whether there is room for one declaration and `count` elements more.
     pub fn room_fault(&self, count: usize) -> Option<BtfError>
         requires { ⌜ Kept (now self) ⌝ }
@@ -62,7 +85,7 @@ impl Store<'_> {
         ensures kept { λ _. ⌜ Kept (now (self .exit)) ⌝ }
         ensures id { λ r. ⌜ r ≡ now (self .entry) .«type_count» ⌝ }
         ensures types { λ _. ⌜ now (self .exit) .types .now ≡ set (now (self .entry) .types .now) (now (self .entry) .«type_count») (row-of head (now (self .entry) .«element_count»)) ⌝ }
-        ensures elements { λ _. ⌜ now (self .exit) .elements .now ≡ over (now (self .entry) .«element_count») (map (λ e. packed (meaning e)) (now (tail .entry))) (now (self .entry) .elements .now) ⌝ }
+        ensures elements { λ _. ⌜ now (self .exit) .elements .now ≡ with-elements (now (self .entry)) (map meaning (now (tail .entry))) ⌝ }
         ensures counts { λ _. ⌜ now (self .exit) .«type_count» ≡ now (self .entry) .«type_count» + 1 ⌝ ∗ ⌜ now (self .exit) .«element_count» ≡ now (self .entry) .«element_count» + length (now (tail .entry)) ⌝ ∗ ⌜ now (self .exit) .«string_len» ≡ now (self .entry) .«string_len» ⌝ }
     {
         let id = self.type_count;
