@@ -97,3 +97,7 @@ module _ (g : Given) (es : Elements) (k : BtfKind) (fine : Fine k (g .declaratio
         widths = wide-enough;
         tail-fits = es .items-fit;
       }
+
+  pub kind-declared : sound-declared .kind ≡ k
+  unfolding sound-declared
+  kind-declared = refl

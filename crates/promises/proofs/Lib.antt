@@ -3,3 +3,5 @@ pub mod Infos
 pub mod Sound
 pub mod Declared
 pub mod Steps
+pub mod Words
+pub mod Lengths

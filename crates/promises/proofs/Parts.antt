@@ -1,5 +1,5 @@
 -- Equal lists, made of parts that are equally long, have equal parts.
-use mathlib.Core.Path.{_≡_, refl, ap, _∙_}
+use mathlib.Core.Path.{_≡_, refl, sym}
 use mathlib.Core.List.{List, [], _∷_, _++_}
 use Prim.Native.Nat.{ℕ, _+_, _*_}
 use native.Mathlib.Nat.{mul-suc}
@@ -7,6 +7,8 @@ use native.Mathlib.Omega.{arith}
 use lib.ListN.{length, length-append}
 use Rattle.std.specs.Joined.{joined}
 use Rattle.std.specs.shelf.Lists.{All}
+use Rattle.std.proofs.shelf.Elements.{all-append}
+use Rattle.std.proofs.shelf.Lists.{joined-more}
 
 pub same-parts : {X : Type 0} (a c b d : List X) → length a ≡ length c → a ++ b ≡ c ++ d → (a ≡ c) × (b ≡ d)
 same-parts [] [] b d l e = (refl, e)
@@ -34,3 +36,10 @@ module _ {X A : Type 0} (f : X → List A) (n : ℕ) (P : X → Type 0) (long : 
       let first = alike x y (p .0) (q .0) (parts .0) in
       let others = same-joined alike xs ys (p .1) (q .1) (omega arith) (parts .1) in
       cc
+
+pub all-joined : {X A : Type 0} (f : X → List A) (P : A → Type 0) (xs : List X) → All (λ x. All P (f x)) xs → All P (joined f xs)
+all-joined f P [] p = tt
+all-joined f P (x ∷ xs) p = all-append P (f x) (joined f xs) (p .0) (all-joined f P xs (p .1))
+
+pub joined-push : {X A : Type 0} (f : X → List A) (xs : List X) (x : X) → joined f (xs ++ x ∷ []) ≡ joined f xs ++ f x
+joined-push f xs x = sym (joined-more f [] xs x)

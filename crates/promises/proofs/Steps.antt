@@ -53,7 +53,7 @@ by-string t name P refused accepted =
     cond-both (ltb (min (length (t .area)) most-strings) (t .strings + (length name + 1))) _ _ P (λ e″. refused _) λ e″.
     accepted
 
-fine-declared : (d : Declaration) (serving : BtfKind → Bool) (count : ℕ) → declaration-fault d serving count ≡ None → Fine (kind-at (d .kind)) (d .linkage) serving count
+pub fine-declared : (d : Declaration) (serving : BtfKind → Bool) (count : ℕ) → declaration-fault d serving count ≡ None → Fine (kind-at (d .kind)) (d .linkage) serving count
 fine-declared d serving count e = record { known = grind (arith, tells); served = elim (cases-eq count 0) [ inl none ↦ inl none | inr some ↦ inr (grind (arith, tells)) ]; linked = grind (arith, tells); few = grind (arith, tells) }
 
 room-left : (t : Table) (count : ℕ) → room-fault t count ≡ None → (length (t .decls) < most-decls) × (t .elements + count ≤ most-elements)
@@ -63,7 +63,7 @@ begun : (ds : List Decl) (d : Decl) → ltb 0 (length ds) ≡ true → Grown ds 
 begun [] d h g s = absurd (false≢true h)
 begun (v ∷ ds) d h g s = (g .0, all-push Sound ds d (g .1) s)
 
-sound-made : (decl-room element-room : ℕ) (area : List ℕ) → Sound-table (made decl-room element-room area)
+pub sound-made : (decl-room element-room : ℕ) (area : List ℕ) → Sound-table (made decl-room element-room area)
 sound-made decl-room element-room area =
     cond-both (ltb 0 decl-room && ltb 0 (length area)) _ _ Sound-table 
     (λ e. record { grown = (refl, tt); counts = refl; few-elements = omega arith; few-decls = omega arith })
