@@ -5,3 +5,4 @@ pub mod Declared
 pub mod Steps
 pub mod Words
 pub mod Lengths
+pub mod Told
