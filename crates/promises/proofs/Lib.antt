@@ -6,3 +6,6 @@ pub mod Steps
 pub mod Words
 pub mod Lengths
 pub mod Told
+pub mod Coded
+pub mod Asked
+pub mod Files
