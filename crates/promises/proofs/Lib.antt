@@ -9,3 +9,4 @@ pub mod Told
 pub mod Coded
 pub mod Asked
 pub mod Files
+pub mod Examples
