@@ -3,17 +3,15 @@ use mathlib.Core.Path.{_≡_, refl, ap, sym, _∙_}
 use mathlib.Core.Bool.{Bool, cond, true, false}
 use mathlib.Core.List.{List, [], _∷_}
 use mathlib.Core.Logic.{_⊎_, inl, inr}
-use Prim.Native.Nat.{ℕ, zero, suc, _+_, _-_, _%_, _^_, _≤_, _<_}
+use Prim.Native.Nat.{ℕ, zero, suc, _-_, _^_, _≤_, _<_}
 use native.Mathlib.Omega.{arith}
 use lib.Dec.{eqb, ltb}
 use lib.ListN.{length, drop, replicate, getD}
 use Rattle.std.specs.shelf.Lists.{All}
 use Rattle.std.proofs.shelf.Lists.{nil-from-length}
 use Rattle.layout.specs.declared.kind.BtfKind.{BtfKind}
-use Rattle.layout.specs.declared.declaration.Declaration.{Declaration}
 use Rattle.layout.specs.Kinds.{kind-number, has-linkage, extra-words, element-words, Third, nothing, bytes, refers, third-word}
 use Rattle.layout.specs.Heads.{low-bits, third-kept, extra-kept, head-kept}
-use Rattle.layout.specs.Info.{low-of}
 use Rattle.meaning.specs.Adding.{decl-with}
 use Rattle.promises.specs.Calls.{Word, Given, Elements}
 use Rattle.promises.proofs.Infos.{each-kind, kind-of-info, low-of-info, info-fits}
@@ -26,9 +24,11 @@ pub record Fine (k : BtfKind) (linkage : ℕ) (serving : BtfKind → Bool) (coun
   pub linked : has-linkage k ≡ true → linkage ≤ 3
   pub few : count ≤ 65535
 
+-- the low bits are sixteen
 low-small : (linkage count : ℕ) → count ≤ 65535 → (k : BtfKind) → low-bits k linkage count < 2 ^ 16
 low-small linkage count few = each-kind (λ k. low-bits k linkage count < 2 ^ 16) (omega arith)
 
+-- they tell the element count, but of a kind that has no elements
 count-kept : (linkage count : ℕ) (k : BtfKind) → (count ≡ 0) ⊎ (0 < element-words k) → count ≡ cond (ltb 0 (element-words k)) (low-bits k linkage count) 0
 count-kept linkage count =
     each-kind (λ k. (count ≡ 0) ⊎ (0 < element-words k) → count ≡ cond (ltb 0 (element-words k)) (low-bits k linkage count) 0) (omega arith)
@@ -38,6 +38,7 @@ third-word-fits nothing n p = omega arith
 third-word-fits bytes n p = p
 third-word-fits refers n p = p
 
+-- three places are kept, and those that the kind does not have are 0
 module _ (linkage : ℕ) (e : List ℕ) where
   three-kept : (k : BtfKind) → length (extra-kept k linkage e) ≡ 3
   three-kept = each-kind (λ k. length (extra-kept k linkage e) ≡ 3) (search)
@@ -63,8 +64,11 @@ linkage-fits : (linkage : ℕ) → (true ≡ true → linkage ≤ 3) → All Wor
 linkage-fits linkage h = omega (arith, h refl)
 
 extra-fit : (linkage : ℕ) (e : List ℕ) → All Word e → (k : BtfKind) → (has-linkage k ≡ true → linkage ≤ 3) → All Word (extra-kept k linkage e)
-extra-fit linkage e p = each-kind (λ k. (has-linkage k ≡ true → linkage ≤ 3) → All Word (extra-kept k linkage e)) (search (zeros, one (getD e 0 0) (word-at e 0 p), three e p, linkage-fits linkage) parts 40)
+extra-fit linkage e p =
+    each-kind (λ k. (has-linkage k ≡ true → linkage ≤ 3) → All Word (extra-kept k linkage e))
+    (search (zeros, one (getD e 0 0) (word-at e 0 p), three e p, linkage-fits linkage) parts 40)
 
+-- elements come only with a kind that has some, and are as wide as it asks
 module _ (g : Given) (es : Elements) (k : BtfKind) (fine : Fine k (g .declaration .linkage) (es .serving) (length (es .items))) where
   has-elements : (length (es .items) ≡ 0) ⊎ (0 < element-words k)
   has-elements = elim (fine .served) [ inl none ↦ inl none | inr s ↦ inr (omega (arith, es .wide, es .suits k s)) ]
@@ -72,8 +76,8 @@ module _ (g : Given) (es : Elements) (k : BtfKind) (fine : Fine k (g .declaratio
   wide-enough : All (λ ws. length ws ≡ element-words k) (es .items)
   wide-enough =
       elim (fine .served) [
-        inl none ↦ rw (nil-from-length (es .items) none) tt
-      | inr s ↦ rw (es .suits k s) (es .counted)
+        | inl none ↦ rw (nil-from-length (es .items) none) tt
+        | inr s ↦ rw (es .suits k s) (es .counted)
       ]
 
   pub sound-declared : Sound (decl-with (head-kept (g .declaration) k (length (es .items))) (es .items))

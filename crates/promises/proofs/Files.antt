@@ -26,6 +26,7 @@ use Rattle.promises.proofs.Asked.{same-answers}
 wordless : (d : Decl) (ds : List Decl) → d ≡ void → type-words (d ∷ ds) ≡ type-words ds
 wordless d ds e = ap (λ v. type-words (v ∷ ds)) e
 
+-- id 0 with what was added: its words fit, are few, and tell the declarations
 grown-fit : (ds : List Decl) → Grown ds → All Word (type-words ds)
 grown-fit [] g = tt
 grown-fit (d ∷ ds) g = subst (All Word) (sym (wordless d ds (g .0))) (type-words-fit ds (g .1))
@@ -41,6 +42,7 @@ grown-same (d ∷ ds) (e ∷ es) h k g j w =
     let others = same-decls ds es (g .1) (j .1) (sym (wordless d ds (g .0)) ∙ w ∙ wordless e es (j .0)) in
     cc (g .0, j .0)
 
+-- the areas are bounded, so the type part's length is a word
 type-bytes-fit : (t : Table) → Sound-table t → Word (type-bytes (t .decls))
 type-bytes-fit t s = omega (arith, grown-few (t .decls) (s .grown))
 

@@ -1,25 +1,24 @@
 -- The type part grows by the published length of each declaration that is added.
-use mathlib.Core.Path.{_≡_, refl, ap, _∙_}
+use mathlib.Core.Path.{_≡_, refl}
 use mathlib.Core.Bool.{_&&_}
-use mathlib.Core.List.{List, [], _∷_, _++_}
+use mathlib.Core.List.{List, [], _∷_}
 use Prim.Native.Nat.{ℕ, _+_, _*_}
 use native.Mathlib.Nat.{mul-assoc}
 use native.Mathlib.Omega.{arith}
 use lib.Dec.{ltb}
-use lib.ListN.{length, length-append}
+use lib.ListN.{length}
 use Rattle.std.proofs.shelf.Tests.{cond-both}
 use Rattle.std.specs.declared.option.Option.the-variants.{None}
 use Rattle.layout.specs.Kinds.{kind-at, extra-words, element-words}
 use Rattle.layout.specs.Heads.{head-kept}
 use Rattle.meaning.specs.Table.{Table, made}
-use Rattle.meaning.specs.Adding.{decl-with, with-type, declaration-fault, room-fault}
-use Rattle.meaning.specs.File.{decl-words, type-words, type-bytes}
+use Rattle.meaning.specs.Adding.{decl-with, with-type, declaration-fault}
+use Rattle.meaning.specs.File.{decl-words, type-bytes}
 use Rattle.promises.specs.Calls.{Given, Elements, Call, adds-string, adds-type, asks, encodes, step, run, published, if-accepted, added-by, added}
 use Rattle.promises.specs.Promises.{fresh, Length-adds-up}
-use Rattle.promises.proofs.Parts.{joined-push}
 use Rattle.promises.proofs.Declared.{sound-declared, kind-declared}
 use Rattle.promises.proofs.Steps.{by-outcome, by-string, fine-declared}
-use Rattle.promises.proofs.Words.{length-words}
+use Rattle.promises.proofs.Words.{length-words, length-pushed}
 
 length-with-type : (t : Table) (g : Given) (es : Elements) → declaration-fault (g .declaration) (es .serving) (length (es .items)) ≡ None →
     type-bytes (with-type t (g .declaration) (es .items) .decls) ≡ type-bytes (t .decls) + published (kind-at (g .declaration .kind)) (length (es .items))
@@ -29,9 +28,7 @@ length-with-type t g es e =
     let new = decl-with (head-kept (g .declaration) k count) (es .items) in
     let fine = fine-declared (g .declaration) (es .serving) count e in
     let more : length (decl-words new) ≡ 3 + extra-words k + element-words k * count = rw (kind-declared g es k fine) at (length-words new (sound-declared g es k fine)) in
-    let all : length (type-words (t .decls ++ new ∷ [])) ≡ length (type-words (t .decls)) + length (decl-words new) =
-        ap length (joined-push decl-words (t .decls) new) ∙ length-append (type-words (t .decls)) (decl-words new) in
-    omega (arith, mul-assoc 4 (element-words k) count)
+    omega (arith, length-pushed (t .decls) new, mul-assoc 4 (element-words k) count)
 
 length-step : (t : Table) (c : Call) → type-bytes (step t c .decls) ≡ type-bytes (t .decls) + added-by t c
 length-step t (adds-string name) = by-string t name (λ o. type-bytes (o .later .decls) ≡ type-bytes (t .decls) + 0) (λ r. omega arith) (omega arith)

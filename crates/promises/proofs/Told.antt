@@ -1,15 +1,13 @@
 -- Equal words come from equal declarations: the second word of each tells how many words it has.
 use mathlib.Core.Path.{_≡_, refl, ap, sym, _∙_}
-use mathlib.Core.Bool.{cond}
 use mathlib.Core.List.{List, [], _∷_, _++_}
-use Prim.Native.Nat.{ℕ, _+_, _-_, _*_, _≤_}
+use Prim.Native.Nat.{ℕ}
 use native.Mathlib.Omega.{arith}
-use lib.Dec.{ltb}
-use lib.ListN.{length, take, drop, getD, replicate, length-append}
+use lib.ListN.{length, take, drop, getD, length-append}
 use Rattle.std.specs.Joined.{joined}
 use Rattle.std.specs.shelf.Lists.{All}
 use Rattle.std.proofs.shelf.Lists.{take-append-drop}
-use Rattle.layout.specs.Info.{kind-of, low-of}
+use Rattle.layout.specs.Info.{kind-of}
 use Rattle.layout.specs.Kinds.{extra-words, element-words}
 use Rattle.meaning.specs.Table.{Decl}
 use Rattle.meaning.specs.File.{decl-words, type-words}
@@ -23,6 +21,7 @@ module _ (d e : Decl) (s : Sound d) (r : Sound e) where
       let at : List ℕ → ℕ = λ l. getD l 1 0 in
       ap (λ l. at (l ++ ws)) (sym (words-are d s)) ∙ ap at w ∙ ap (λ l. at (l ++ vs)) (words-are e r)
 
+  -- the info words tell the kinds and the counts, and with them the lengths
   module _ (same : d .info ≡ e .info) where
     same-kinds : s .kind ≡ r .kind
     same-kinds = sym (s .kind-is) ∙ ap kind-of same ∙ r .kind-is

@@ -2,7 +2,7 @@
 use mathlib.Core.Path.{_≡_, ap, _∙_}
 use mathlib.Core.Bool.{cond}
 use mathlib.Core.List.{List, [], _∷_, _++_}
-use Prim.Native.Nat.{ℕ, _+_, _*_, _≤_}
+use Prim.Native.Nat.{_+_, _*_, _≤_}
 use native.Mathlib.Omega.{arith}
 use lib.Dec.{eqb}
 use lib.ListN.{length, take, length-append, length-take}
@@ -17,7 +17,7 @@ use Rattle.meaning.specs.Table.{Decl}
 use Rattle.meaning.specs.File.{decl-words, type-words}
 use Rattle.promises.specs.Calls.{Word}
 use Rattle.promises.proofs.Infos.{extra-small, element-small}
-use Rattle.promises.proofs.Parts.{length-joined, all-joined}
+use Rattle.promises.proofs.Parts.{length-joined, all-joined, joined-push}
 use Rattle.promises.proofs.Sound.{Sound, tail-length}
 
 module _ (d : Decl) (s : Sound d) where
@@ -37,9 +37,11 @@ module _ (d : Decl) (s : Sound d) where
 
   pub words-fit : All Word (decl-words d)
   words-fit =
-      rw words-are (s .name-fits, (s .info-fits, (s .third-fits,
-      all-append Word _ _ (all-take Word (extra-words (s .kind)) (d .extra) (s .extra-fits)) (all-joined (λ e. e) Word (d .tail) (s .tail-fits)))))
+      let extras = all-take Word (extra-words (s .kind)) (d .extra) (s .extra-fits) in
+      let tails = all-joined (λ e. e) Word (d .tail) (s .tail-fits) in
+      rw words-are (s .name-fits, (s .info-fits, (s .third-fits, all-append Word _ _ extras tails)))
 
+  -- at most six words, and three for each element
   few-words : length (decl-words d) ≤ 6 + 3 * length (d .tail)
   few-words = omega (arith, length-words, extra-small (s .kind), mul-le (element-words (s .kind)) (length (d .tail)) 3 (length (d .tail)) (element-small (s .kind)) (omega arith))
 
@@ -49,3 +51,6 @@ type-words-fit ds p = all-joined decl-words Word ds (all-weaker Sound (λ d. All
 pub few-type-words : (ds : List Decl) → All Sound ds → length (type-words ds) ≤ 6 * length ds + 3 * sumBy tail-length ds
 few-type-words [] p = omega arith
 few-type-words (d ∷ ds) p = omega (arith, length-append (decl-words d) (type-words ds), few-words d (p .0), few-type-words ds (p .1), sumBy-cons tail-length d ds)
+
+pub length-pushed : (ds : List Decl) (d : Decl) → length (type-words (ds ++ d ∷ [])) ≡ length (type-words ds) + length (decl-words d)
+length-pushed ds d = ap length (joined-push decl-words ds d) ∙ length-append (type-words ds) (decl-words d)

@@ -57,23 +57,36 @@ arrays inner outer p q =
     adds 0 Array 0 (1 ∷ 1 ∷ inner ∷ []) (lit< tt) (lit< tt) (lit< tt, (lit< tt, (p, tt))) ∷
     adds 0 Array 0 (2 ∷ 1 ∷ outer ∷ []) (lit< tt) (lit< tt) (lit< tt, (lit< tt, (q, tt))) ∷ []
 
+-- the file of a new table
+abbrev pub new-file : List ℕ
+new-file =
+    -- magic, version, flags; the header's length
+    0x9f ∷ 0xeb ∷ 1 ∷ 0 ∷ 24 ∷ 0 ∷ 0 ∷ 0 ∷
+    -- offset and length of the types, offset and length of the strings
+    0 ∷ 0 ∷ 0 ∷ 0 ∷ 0 ∷ 0 ∷ 0 ∷ 0 ∷ 0 ∷ 0 ∷ 0 ∷ 0 ∷ 1 ∷ 0 ∷ 0 ∷ 0 ∷
+    -- the strings
+    0 ∷ []
+
+-- the file of the table with the Int
+abbrev pub int-file : List ℕ
+int-file =
+    0x9f ∷ 0xeb ∷ 1 ∷ 0 ∷ 24 ∷ 0 ∷ 0 ∷ 0 ∷
+    0 ∷ 0 ∷ 0 ∷ 0 ∷ 16 ∷ 0 ∷ 0 ∷ 0 ∷ 16 ∷ 0 ∷ 0 ∷ 0 ∷ 5 ∷ 0 ∷ 0 ∷ 0 ∷
+    -- name offset 1, info (kind 1), size 4, data
+    1 ∷ 0 ∷ 0 ∷ 0 ∷ 0 ∷ 0 ∷ 0 ∷ 1 ∷ 4 ∷ 0 ∷ 0 ∷ 0 ∷ 0x20 ∷ 0 ∷ 0 ∷ 1 ∷
+    -- "", "int"
+    0 ∷ 105 ∷ 110 ∷ 116 ∷ 0 ∷ []
+
 abbrev pub examples : List (Shown × Shown)
 examples =
-    -- a new table as a file
-    (bytes (file little new),
-    bytes (0x9f ∷ 0xeb ∷ 1 ∷ 0 ∷ 24 ∷ 0 ∷ 0 ∷ 0 ∷
-      0 ∷ 0 ∷ 0 ∷ 0 ∷ 0 ∷ 0 ∷ 0 ∷ 0 ∷ 0 ∷ 0 ∷ 0 ∷ 0 ∷ 1 ∷ 0 ∷ 0 ∷ 0 ∷ 0 ∷ [])) ∷
+    (bytes (file little new), bytes new-file) ∷
     -- a name, and then the Int
     (answer (add-string new (codes "int") .answer), answer (accepted 1)) ∷
     (number (getD (decl-at (with-int .decls) 1 .extra) 0 0), number 0x01000020) ∷
     (number (type-bytes (with-int .decls)), number 16) ∷
     (number (with-int .strings), number 5) ∷
     (number (file-length with-int), number 45) ∷
-    (bytes (file little with-int),
-    bytes (0x9f ∷ 0xeb ∷ 1 ∷ 0 ∷ 24 ∷ 0 ∷ 0 ∷ 0 ∷
-      0 ∷ 0 ∷ 0 ∷ 0 ∷ 16 ∷ 0 ∷ 0 ∷ 0 ∷ 16 ∷ 0 ∷ 0 ∷ 0 ∷ 5 ∷ 0 ∷ 0 ∷ 0 ∷
-      1 ∷ 0 ∷ 0 ∷ 0 ∷ 0 ∷ 0 ∷ 0 ∷ 1 ∷ 4 ∷ 0 ∷ 0 ∷ 0 ∷ 0x20 ∷ 0 ∷ 0 ∷ 1 ∷
-      0 ∷ 105 ∷ 110 ∷ 116 ∷ 0 ∷ [])) ∷
+    (bytes (file little with-int), bytes int-file) ∷
     -- Consts: 31 are followed, 32 are too many
     (reply (ask (run with-int (consts 31 (lit< tt))) (end-of 32)), reply (walked (accepted (1, 31)))) ∷
     (reply (ask (run with-int (consts 32 (lit< tt))) (end-of 33)), reply (walked (refused (refusal 10 (Some 33) None None)))) ∷
