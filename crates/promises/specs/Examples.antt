@@ -44,12 +44,12 @@ new = made 40 4 (replicate 8 0)
 
 -- id 1: a signed Int of 4 bytes, named "int"
 abbrev pub with-int : Table
-with-int = run new (adds-string (codes "int") ∷ adds 1 Int 4 (int-data 1 0 4 ∷ []) (lit< tt) (lit< tt) (lit< tt, tt) ∷ [])
+with-int = run new (adds-string (codes "int") ∷ adds 1 Int 4 (int-data 1 0 4 ∷ 0 ∷ 0 ∷ []) (lit< tt) (lit< tt) (lit< tt, (lit< tt, (lit< tt, tt))) ∷ [])
 
 -- so many Consts behind the Int, each of the declaration before it
 abbrev pub consts : (n : ℕ) → n < 2 ^ 32 → List Call
 consts zero p = []
-consts (suc n) p = consts n (omega arith) ++ adds 0 Const (suc n) [] (lit< tt) p tt ∷ []
+consts (suc n) p = consts n (omega arith) ++ adds 0 Const (suc n) (0 ∷ 0 ∷ 0 ∷ []) (lit< tt) p (lit< tt, (lit< tt, (lit< tt, tt))) ∷ []
 
 -- id 2: an Array of `inner` Ints; id 3: an Array of `outer` of those
 abbrev pub arrays : (inner outer : ℕ) → Word inner → Word outer → List Call
