@@ -1,0 +1,12 @@
+pub mod Parts
+pub mod Infos
+pub mod Sound
+pub mod Declared
+pub mod Steps
+pub mod Words
+pub mod Lengths
+pub mod Told
+pub mod Coded
+pub mod Asked
+pub mod Files
+pub mod Examples
