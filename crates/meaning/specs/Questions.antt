@@ -68,11 +68,12 @@ abbrev pub judge : Decl → List ℕ → List ℕ → ℕ → Answer ℕ → Opt
 judge d bytes name id rest (Some s) = cond (sameBytes s name) (accepted id) rest
 judge d bytes name id rest None = refused (refusal 6 (Some id) None (Some (d .name)))
 
+abbrev pub find-here : Decl → List ℕ → List ℕ → BtfKind → ℕ → Answer ℕ → Answer ℕ
+find-here d bytes name kind id rest = cond (eqb (kind-number (decl-kind d)) (kind-number kind)) (judge d bytes name id rest (string-from bytes (d .name))) rest
+
 abbrev pub find-from : List Decl → List ℕ → List ℕ → BtfKind → ℕ → Answer ℕ
 find-from [] bytes name kind id = refused (refusal 11 None None None)
-find-from (d ∷ ds) bytes name kind id =
-    let rest = find-from ds bytes name kind (id + 1) in
-    cond (eqb (kind-number (decl-kind d)) (kind-number kind)) (judge d bytes name id rest (string-from bytes (d .name))) rest
+find-from (d ∷ ds) bytes name kind id = find-here d bytes name kind id (find-from ds bytes name kind (id + 1))
 
 -- What a walk does at a declaration: goes on to an id, ends with an answer, or is refused.
 pub data Move (S X : Type 0) : Type 0 where

@@ -1,8 +1,12 @@
 mod Begun
 mod Checks
 mod Counts
+mod Finds
 mod Lengths
+mod Lookups
 mod Maps
 mod Names
+mod Paths
+mod Same
 mod Stores
 mod Tables

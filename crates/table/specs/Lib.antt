@@ -1,3 +1,4 @@
 pub mod Rows
 pub mod Kept
 pub mod Tables
+pub mod Walks
