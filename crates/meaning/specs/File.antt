@@ -5,9 +5,11 @@ use Prim.Native.Nat.{ℕ, _+_, _*_}
 use lib.Dec.{ltb, leb, eqb}
 use lib.ListN.{length, take}
 use Rattle.std.specs.Joined.{joined}
+use Rattle.std.specs.shelf.Lists.{sumBy}
 use Rattle.std.specs.declared.option.Option.the-variants.{Some, None}
 use Rattle.order.specs.Order.{Order}
 use Rattle.layout.specs.Kinds.{kind-number, extra-words}
+use Rattle.layout.specs.Info.{type-length}
 use Rattle.layout.specs.Refusals.{Answer, accepted, refused, refusal}
 use Rattle.meaning.specs.Table.{Decl, Table, text, holds, no-table}
 use Rattle.meaning.specs.Adding.{over}
@@ -22,19 +24,23 @@ decl-words d =
 abbrev pub type-words : List Decl → List ℕ
 type-words ds = joined decl-words ds
 
--- the type part's length in bytes
-abbrev pub type-bytes : List Decl → ℕ
-type-bytes ds = 4 * length (type-words ds)
-
 abbrev pub coded : Order → List ℕ → List ℕ
 coded o ws = joined (o .word) ws
+
+-- the type part of a file
+abbrev pub type-part : Order → List Decl → List ℕ
+type-part o ds = coded o (type-words ds)
+
+-- its length as the header states it: the sum of the published lengths
+abbrev pub type-bytes : List Decl → ℕ
+type-bytes ds = sumBy (λ d. type-length (d .info)) ds
 
 -- magic, version 1, flags 0; header length 24, type offset 0, type length, string offset, string length
 abbrev pub header : Order → ℕ → ℕ → List ℕ
 header o types strings = o .half 0xeb9f ++ 1 ∷ 0 ∷ coded o (24 ∷ 0 ∷ types ∷ types ∷ strings ∷ [])
 
 abbrev pub file : Order → Table → List ℕ
-file o t = header o (type-bytes (t .decls)) (t .strings) ++ coded o (type-words (t .decls)) ++ text t
+file o t = header o (type-bytes (t .decls)) (t .strings) ++ type-part o (t .decls) ++ text t
 
 abbrev pub file-length : Table → ℕ
 file-length t = 24 + type-bytes (t .decls) + t .strings

@@ -1,5 +1,5 @@
 -- Equal files come from equal tables.
-use mathlib.Core.Path.{_≡_, ap, sym, subst, _∙_}
+use mathlib.Core.Path.{_≡_, refl, ap, sym, subst, _∙_}
 use mathlib.Core.Bool.{true}
 use mathlib.Core.List.{List, [], _∷_, _++_, append-assoc}
 use Prim.Native.Nat.{ℕ, _+_, _*_, _≤_}
@@ -17,7 +17,7 @@ use Rattle.promises.specs.Promises.{Reached, fresh, table, One-file-one-table}
 use Rattle.promises.proofs.Parts.{same-parts}
 use Rattle.promises.proofs.Sound.{Grown, Sound-table, tail-length}
 use Rattle.promises.proofs.Steps.{sound-made, sound-run}
-use Rattle.promises.proofs.Words.{type-words-fit, few-type-words}
+use Rattle.promises.proofs.Words.{word-bytes, type-words-fit, few-type-words, types-stated}
 use Rattle.promises.proofs.Told.{same-decls}
 use Rattle.promises.proofs.Coded.{length-coded, same-coded, length-header, same-types}
 use Rattle.promises.proofs.Asked.{same-answers}
@@ -27,7 +27,7 @@ wordless : (d : Decl) (ds : List Decl) → d ≡ void → type-words (d ∷ ds) 
 wordless d ds e = ap (λ v. type-words (v ∷ ds)) e
 
 -- id 0 with what was added: its words fit, are few, and tell the declarations
-grown-fit : (ds : List Decl) → Grown ds → All Word (type-words ds)
+pub grown-fit : (ds : List Decl) → Grown ds → All Word (type-words ds)
 grown-fit [] g = tt
 grown-fit (d ∷ ds) g = subst (All Word) (sym (wordless d ds (g .0))) (type-words-fit ds (g .1))
 
@@ -42,9 +42,15 @@ grown-same (d ∷ ds) (e ∷ es) h k g j w =
     let others = same-decls ds es (g .1) (j .1) (sym (wordless d ds (g .0)) ∙ w ∙ wordless e es (j .0)) in
     cc (g .0, j .0)
 
+-- the header states the length of the words
+pub grown-stated : (ds : List Decl) → Grown ds → type-bytes ds ≡ word-bytes ds
+grown-stated [] g = refl
+grown-stated (d ∷ ds) g =
+    ap (λ v. type-bytes (v ∷ ds)) (g .0) ∙ types-stated ds (g .1) ∙ ap (λ ws. 4 * length ws) (sym (wordless d ds (g .0)))
+
 -- the areas are bounded, so the type part's length is a word
 type-bytes-fit : (t : Table) → Sound-table t → Word (type-bytes (t .decls))
-type-bytes-fit t s = omega (arith, grown-few (t .decls) (s .grown))
+type-bytes-fit t s = omega (arith, grown-few (t .decls) (s .grown), grown-stated (t .decls) (s .grown))
 
 module _ (o : Order) (t u : Table) (s : Sound-table t) (r : Sound-table u) where
   pub same-file : holds t ≡ true → holds u ≡ true → file o t ≡ file o u → (t .decls ≡ u .decls) × (text t ≡ text u)
@@ -57,7 +63,7 @@ module _ (o : Order) (t u : Table) (s : Sound-table t) (r : Sound-table u) where
       let amounts = same-types o (type-bytes (t .decls)) (type-bytes (u .decls)) (t .strings) (u .strings) (type-bytes-fit t s) (type-bytes-fit u r) (parts .0) in
       let fit = grown-fit (t .decls) (s .grown) in
       let fit′ = grown-fit (u .decls) (r .grown) in
-      let behind = same-parts (types t) (types u) (text t) (text u) (cc (length-coded o (type-words (t .decls)) fit, length-coded o (type-words (u .decls)) fit′)) (parts .1) in
+      let behind = same-parts (types t) (types u) (text t) (text u) (omega (arith, length-coded o (type-words (t .decls)) fit, length-coded o (type-words (u .decls)) fit′, grown-stated (t .decls) (s .grown), grown-stated (u .decls) (r .grown), amounts)) (parts .1) in
       let words = same-coded o (type-words (t .decls)) (type-words (u .decls)) fit fit′ (behind .0) in
       (grown-same (t .decls) (u .decls) (and-parts _ _ h .0) (and-parts _ _ k .0) (s .grown) (r .grown) words, behind .1)
 

@@ -1,24 +1,37 @@
 -- The words of sound declarations.
-use mathlib.Core.Path.{_≡_, ap, _∙_}
+use mathlib.Core.Path.{_≡_, refl, ap, sym, _∙_}
 use mathlib.Core.Bool.{cond}
 use mathlib.Core.List.{List, [], _∷_, _++_}
-use Prim.Native.Nat.{_+_, _*_, _≤_}
+use mathlib.Core.Logic.{⊎-elim}
+use Prim.Native.Nat.{ℕ, _+_, _*_, _≤_, _<_}
+use native.Mathlib.Nat.{mul-assoc, zero-mul}
 use native.Mathlib.Omega.{arith}
-use lib.Dec.{eqb}
+use lib.Dec.{eqb, ltb}
 use lib.ListN.{length, take, length-append, length-take}
 use Rattle.std.specs.Joined.{joined}
 use Rattle.std.specs.shelf.Lists.{All, sumBy}
 use Rattle.std.proofs.shelf.Bits.{mul-le}
 use Rattle.std.proofs.shelf.Elements.{all-append, all-take, all-weaker}
 use Rattle.std.proofs.shelf.Sums.{sumBy-cons}
-use Rattle.std.proofs.shelf.Tests.{cond-false}
+use Rattle.std.proofs.shelf.Tests.{cond-false, cond-true, lt-ltb, cases-lt}
 use Rattle.layout.specs.Kinds.{kind-number, extra-words, element-words}
+use Rattle.layout.specs.Info.{low-of, type-length}
 use Rattle.meaning.specs.Table.{Decl}
-use Rattle.meaning.specs.File.{decl-words, type-words}
+use Rattle.meaning.specs.File.{decl-words, type-words, type-bytes}
 use Rattle.promises.specs.Calls.{Word}
 use Rattle.promises.proofs.Infos.{extra-small, element-small}
 use Rattle.promises.proofs.Parts.{length-joined, all-joined, joined-push}
 use Rattle.promises.proofs.Sound.{Sound, tail-length}
+
+-- a kind without elements has none, whatever the low bits hold
+element-total : (width low count : ℕ) → count ≡ cond (ltb 0 width) low 0 → 4 * width * low ≡ 4 * (width * count)
+element-total width low count e =
+    ⊎-elim
+    (λ (some : 0 < width). mul-assoc 4 width low ∙ ap (λ n. 4 * (width * n)) (sym (e ∙ cond-true (ltb 0 width) low 0 (lt-ltb 0 width some))))
+    (λ (none : width ≤ 0).
+        let z : width ≡ 0 = omega arith in
+        ap (λ w. 4 * w * low) z ∙ zero-mul low ∙ sym (ap (λ w. 4 * (w * count)) z ∙ ap (λ n. 4 * n) (zero-mul count)))
+    (cases-lt 0 width)
 
 module _ (d : Decl) (s : Sound d) where
   pub words-are : decl-words d ≡ d .name ∷ d .info ∷ d .third ∷ (take (extra-words (s .kind)) (d .extra) ++ joined (λ e. e) (d .tail))
@@ -54,3 +67,19 @@ few-type-words (d ∷ ds) p = omega (arith, length-append (decl-words d) (type-w
 
 pub length-pushed : (ds : List Decl) (d : Decl) → length (type-words (ds ++ d ∷ [])) ≡ length (type-words ds) + length (decl-words d)
 length-pushed ds d = ap length (joined-push decl-words ds d) ∙ length-append (type-words ds) (decl-words d)
+
+-- four bytes for each word
+abbrev pub word-bytes : List Decl → ℕ
+word-bytes ds = 4 * length (type-words ds)
+
+-- what the info word states is the length
+pub length-stated : (d : Decl) (s : Sound d) → type-length (d .info) ≡ 4 * length (decl-words d)
+length-stated d s =
+    let k = s .kind in
+    let by-kind : type-length (d .info) ≡ cond (eqb (kind-number k) 0) 0 (12 + 4 * extra-words k + 4 * element-words k * low-of (d .info)) =
+        ap (λ j. cond (eqb (kind-number j) 0) 0 (12 + 4 * extra-words j + 4 * element-words j * low-of (d .info))) (s .kind-is) in
+    by-kind ∙ cond-false (eqb (kind-number k) 0) 0 _ (s .known) ∙ omega (arith, length-words d s, element-total (element-words k) (low-of (d .info)) (length (d .tail)) (s .counted))
+
+pub types-stated : (ds : List Decl) → All Sound ds → type-bytes ds ≡ word-bytes ds
+types-stated [] p = refl
+types-stated (d ∷ ds) p = omega (arith, sumBy-cons (λ x. type-length (x .info)) d ds, length-stated d (p .0), types-stated ds (p .1), length-append (decl-words d) (type-words ds))
