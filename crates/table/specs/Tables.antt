@@ -12,6 +12,7 @@ use Rattle.elements.specs.declared.Element.{Element}
 use Rattle.elements.specs.Packing.{packed}
 use Rattle.meaning.specs.Table.{Table, Outcome}
 use Rattle.meaning.specs.Adding.{over}
+use Rattle.meaning.specs.File.{Written}
 use Rattle.table.specs.declared.store.TypeRow.{TypeRow}
 use Rattle.table.specs.declared.store.Store.{Store}
 use Rattle.table.specs.Rows.{decl-of}
@@ -38,3 +39,7 @@ with-row s d count = set (s .types .now) (s .«type_count») (row-of (head-kept 
 -- the element area with the elements of a tail, given by their words; those behind them are as they were
 abbrev pub with-elements : Store → List (List ℕ) → List Element
 with-elements s tail = over (s .«element_count») (map packed tail) (s .elements .now)
+
+-- what an encoding answered, and the buffer that it left
+abbrev pub written : Result ℕ BtfError → List ℕ → Written
+written r buffer = record { answer = told (λ n. n) r; buffer = buffer }

@@ -2,7 +2,9 @@
 mod adding;
 mod asking;
 mod btf;
+mod encoding;
 mod making;
+mod public;
 mod store;
 mod text;
 mod walking;

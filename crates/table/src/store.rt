@@ -7,7 +7,7 @@ ghost use Rattle.layout.specs.Info.{elements-of};
 ghost use Rattle.layout.specs.Refusals.{fault-said};
 ghost use Rattle.meaning.specs.Table.{holds};
 ghost use Rattle.meaning.specs.Adding.{room-fault};
-ghost use Rattle.table.specs.Kept.{Kept, row-of, void-row};
+ghost use Rattle.table.specs.Kept.{Kept, row-of, void-row, used-rows};
 ghost use Rattle.table.specs.Tables.{table-of, with-elements};
 use crate::adding::put_tail;
 use elements::Element;
@@ -60,6 +60,14 @@ impl Store<'_> {
         ensures { λ r. ⌜ r ≡ holds (table-of (now (self .entry)) (now (strings .entry))) ⌝ }
     {
         0 < self.type_count && self.string_len <= strings.len()
+    }
+
+    // The rows in use.
+    pub fn rows(&self) -> &[TypeRow]
+        requires { ⌜ Kept (now self) ⌝ }
+        ensures { λ r. ⌜ now r ≡ used-rows (now (self .entry)) ⌝ }
+    {
+        &self.types[0..self.type_count]
     }
 
     // Whether there is room for one declaration and `count` elements more.
