@@ -1,9 +1,10 @@
 -- What the rows of the two lent areas mean.
-use mathlib.Core.List.{List, map}
+use mathlib.Core.List.{List, _∷_, map}
 use Prim.Native.Nat.{ℕ}
 use lib.ListN.{take, drop}
 use Rattle.layout.specs.Info.{kind-of, elements-of}
 use Rattle.layout.specs.Kinds.{element-words}
+use Rattle.layout.specs.declared.head.BtfType.{BtfType}
 use Rattle.elements.specs.declared.Element.{Element}
 use Rattle.meaning.specs.Table.{Decl}
 use Rattle.table.specs.declared.store.TypeRow.{TypeRow}
@@ -24,3 +25,7 @@ decl-of es row = record {
   extra = row .head .extra;
   tail = row-tail es row;
 }
+
+-- the words of a head with so many extra words
+abbrev pub head-words : BtfType → ℕ → List ℕ
+head-words h extra = h .«name_offset» ∷ h .info ∷ h .«size_or_type» ∷ take extra (h .extra)
