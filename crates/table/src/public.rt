@@ -13,6 +13,8 @@ ghost use Rattle.meaning.specs.Table.{made, text};
 ghost use Rattle.meaning.specs.Adding.{add-string, add-type};
 ghost use Rattle.meaning.specs.Questions.{asked-of, string-at, type-by-id, element-at, type-name, find-from, resolve-type, type-size};
 ghost use Rattle.meaning.specs.File.{encode};
+ghost use Rattle.promises.specs.Examples.{Examples-hold};
+ghost use Rattle.promises.specs.Promises.{One-file-one-table, Length-adds-up};
 ghost use Rattle.table.specs.Kept.{void-row, holding};
 ghost use Rattle.table.specs.Tables.{table-of, outcome, with-row, with-elements, written};
 use crate::asking;
@@ -134,8 +136,13 @@ impl<'a> Btf<'a> {
 
     // Writes the file of the table into the buffer in a byte order, and answers how many bytes it has.
     // The rest of the buffer is left as it was, and all of it where the buffer is too short.
+    // After whatever calls: equal files come from equal tables, which answer every question alike, and the
+    // type part is as long as what was added.
     pub fn to_bytes<O: ByteOrder>(&self, strings: &[u8], order: &O, out: &mut [u8]) -> Result<usize, BtfError>
-        ensures { λ r. ⌜ written r (now (out .exit)) ≡ encode (O·ByteOrder .order) (table-of (now (self .entry) .store) (now (strings .entry))) (now (out .entry)) ⌝ }
+        ensures file { λ r. ⌜ written r (now (out .exit)) ≡ encode (O·ByteOrder .order) (table-of (now (self .entry) .store) (now (strings .entry))) (now (out .entry)) ⌝ }
+        ensures one_file { λ _. ⌜ One-file-one-table ⌝ }
+        ensures length { λ _. ⌜ Length-adds-up ⌝ }
+        ensures examples { λ _. ⌜ Examples-hold ⌝ }
     {
         self.store.to_bytes(strings, order, out)
     }
