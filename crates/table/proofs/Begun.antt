@@ -10,10 +10,11 @@ use Rattle.std.specs.shelf.Lists.{sumBy}
 use Rattle.std.proofs.shelf.Lists.{take-more-set, getD-set-same, length-set}
 use Rattle.std.proofs.shelf.Tests.{lt-ltb}
 use Rattle.meaning.specs.Table.{Table, made, void}
-use Rattle.table.specs.declared.store.TypeRow.{TypeRow}
+use Rattle.rows.specs.declared.row.TypeRow.{TypeRow}
 use Rattle.table.specs.declared.store.Store.{Store}
-use Rattle.table.specs.Rows.{decl-of}
-use Rattle.table.specs.Kept.{Kept, Placed, row-length, void-row, used-rows, holding}
+use Rattle.rows.specs.Rows.{decl-of}
+use Rattle.table.specs.Kept.{Kept, Placed, row-length, used-rows, holding}
+use Rattle.rows.specs.Rows.{void-row}
 use Rattle.table.specs.Tables.{table-of}
 
 -- what a store over areas with room begins as

@@ -2,14 +2,10 @@ mod Begun
 mod Checks
 mod Counts
 mod Encodes
-mod Finds
 mod Lengths
-mod Lookups
 mod Maps
 mod Names
 mod Parts
-mod Paths
-mod Same
 mod Stores
 mod Tables
 mod Writes

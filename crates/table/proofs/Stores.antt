@@ -15,9 +15,10 @@ use Rattle.elements.specs.declared.Element.{Element}
 use Rattle.meaning.specs.Table.{most-decls, most-elements, most-strings}
 use Rattle.meaning.specs.Adding.{over}
 use Rattle.meaning.proofs.Over.{length-over}
-use Rattle.table.specs.declared.store.TypeRow.{TypeRow}
+use Rattle.rows.specs.declared.row.TypeRow.{TypeRow}
 use Rattle.table.specs.declared.store.Store.{Store}
-use Rattle.table.specs.Kept.{Kept, Placed, row-length, row-of, used-rows}
+use Rattle.table.specs.Kept.{Kept, Placed, row-length, used-rows}
+use Rattle.rows.specs.Rows.{row-of}
 use Rattle.table.proofs.Lengths.{length-bounded}
 
 -- a row put behind the others, with its elements

@@ -23,10 +23,11 @@ use Rattle.elements.specs.Packing.{packed}
 use Rattle.meaning.specs.Table.{Decl}
 use Rattle.meaning.specs.Adding.{over, decl-with, with-type}
 use Rattle.meaning.proofs.Over.{length-over, take-over}
-use Rattle.table.specs.declared.store.TypeRow.{TypeRow}
+use Rattle.rows.specs.declared.row.TypeRow.{TypeRow}
 use Rattle.table.specs.declared.store.Store.{Store}
-use Rattle.table.specs.Rows.{kept-words, row-tail, decl-of}
-use Rattle.table.specs.Kept.{Kept, Placed, row-of, used-rows}
+use Rattle.rows.specs.Rows.{kept-words, row-tail, decl-of}
+use Rattle.table.specs.Kept.{Kept, Placed, used-rows}
+use Rattle.rows.specs.Rows.{row-of}
 use Rattle.table.specs.Tables.{table-of}
 use Rattle.table.proofs.Maps.{map-same}
 use Rattle.table.proofs.Stores.{Put, rows-push}

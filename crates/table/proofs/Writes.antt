@@ -21,8 +21,8 @@ use Rattle.meaning.specs.File.{coded, decl-words, type-part, type-bytes, header
 use Rattle.meaning.proofs.Files.{joined-take, joined-map, over-words-more, over-four, length-coded}
 use Rattle.meaning.proofs.Over.{over-over}
 use Rattle.meaning.proofs.Lengths.{element-total}
-use Rattle.table.specs.declared.store.TypeRow.{TypeRow}
-use Rattle.table.specs.Rows.{kept-words, decl-of, head-words}
+use Rattle.rows.specs.declared.row.TypeRow.{TypeRow}
+use Rattle.rows.specs.Rows.{kept-words, decl-of, head-words}
 use Rattle.table.specs.Kept.{Placed, row-length}
 
 abbrev pub kept : ℕ → Element → List ℕ

@@ -15,13 +15,12 @@ ghost use Rattle.meaning.specs.Questions.{asked-of, string-at, type-by-id, elem
 ghost use Rattle.meaning.specs.File.{encode};
 ghost use Rattle.promises.specs.Examples.{Examples-hold};
 ghost use Rattle.promises.specs.Promises.{One-file-one-table, Length-adds-up};
-ghost use Rattle.table.specs.Kept.{void-row, holding};
+ghost use Rattle.table.specs.Kept.{holding};
+ghost use Rattle.rows.specs.Rows.{void-row};
 ghost use Rattle.table.specs.Tables.{table-of, outcome, with-row, with-elements, written};
-use crate::asking;
 use crate::btf::Btf;
 use crate::store::Store;
-use crate::store::TypeRow;
-use crate::walking;
+use rows::TypeRow;
 use elements::BtfElement;
 use elements::Element;
 use elements::ElementType;
@@ -69,7 +68,7 @@ impl<'a> Btf<'a> {
         if !self.store.holds(strings) {
             return Err(BtfError::NoTable);
         }
-        asking::string_at(&strings[0..self.store.string_len], None, offset)
+        rows::string_at(&strings[0..self.store.string_len], None, offset)
     }
 
     // The head of a declaration: all of it but its elements.
@@ -79,7 +78,7 @@ impl<'a> Btf<'a> {
         if !self.store.holds(strings) {
             return Err(BtfError::NoTable);
         }
-        asking::type_by_id(self.store.rows(), id)
+        rows::type_by_id(self.store.rows(), id)
     }
 
     // An element of a declaration, from 0.
@@ -89,7 +88,7 @@ impl<'a> Btf<'a> {
         if !self.store.holds(strings) {
             return Err(BtfError::NoTable);
         }
-        asking::element_at(self.store.rows(), self.store.elements, id, index)
+        rows::element_at(self.store.rows(), self.store.elements, id, index)
     }
 
     // The name of a declaration, as a part of the string area.
@@ -99,7 +98,7 @@ impl<'a> Btf<'a> {
         if !self.store.holds(strings) {
             return Err(BtfError::NoTable);
         }
-        asking::type_name(self.store.rows(), &strings[0..self.store.string_len], id)
+        rows::type_name(self.store.rows(), &strings[0..self.store.string_len], id)
     }
 
     // The lowest id of a kind and name.
@@ -109,7 +108,7 @@ impl<'a> Btf<'a> {
         if !self.store.holds(strings) {
             return Err(BtfError::NoTable);
         }
-        asking::id_by_type_name_kind(self.store.rows(), &strings[0..self.store.string_len], name, kind)
+        rows::id_by_type_name_kind(self.store.rows(), &strings[0..self.store.string_len], name, kind)
     }
 
     // The end of an id behind Volatile, Const, Restrict, Typedef and TypeTag, and the links followed to it.
@@ -120,7 +119,7 @@ impl<'a> Btf<'a> {
         if !self.store.holds(strings) {
             return Err(BtfError::NoTable);
         }
-        walking::resolve_type(self.store.rows(), id)
+        rows::resolve_type(self.store.rows(), id)
     }
 
     // The size of an id where pointers have a width, and the links followed to what has it.
@@ -131,7 +130,7 @@ impl<'a> Btf<'a> {
         if !self.store.holds(strings) {
             return Err(BtfError::NoTable);
         }
-        walking::type_size(self.store.rows(), id, width)
+        rows::type_size(self.store.rows(), id, width)
     }
 
     // Writes the file of the table into the buffer in a byte order, and answers how many bytes it has.

@@ -7,7 +7,8 @@ ghost use Rattle.layout.specs.Info.{elements-of};
 ghost use Rattle.layout.specs.Refusals.{fault-said};
 ghost use Rattle.meaning.specs.Table.{holds};
 ghost use Rattle.meaning.specs.Adding.{room-fault};
-ghost use Rattle.table.specs.Kept.{Kept, row-of, void-row, used-rows};
+ghost use Rattle.table.specs.Kept.{Kept, used-rows};
+ghost use Rattle.rows.specs.Rows.{row-of};
 ghost use Rattle.table.specs.Tables.{table-of, with-elements};
 use crate::adding::put_tail;
 use elements::Element;
@@ -15,32 +16,11 @@ use elements::ElementType;
 use layout::Area;
 use layout::BtfError;
 use layout::BtfType;
+use rows::TypeRow;
 
 const MOST_DECLARATIONS: usize = 1_048_575;
 
 const MOST_ELEMENTS: usize = 2_097_152;
-
-// A declaration as the table keeps it: its head, and where its elements begin in the element area.
-#[derive(Clone, Copy)]
-pub struct TypeRow {
-    pub head: BtfType,
-    pub first: u32,
-}
-
-impl TypeRow {
-    // What fills an area before a table is made over it, and id 0.
-    pub fn empty() -> TypeRow
-        ensures { λ r. ⌜ r ≡ void-row ⌝ }
-    {
-        let head = BtfType {
-            name_offset: 0,
-            info: 0,
-            size_or_type: 0,
-            extra: [0, 0, 0],
-        };
-        TypeRow { head, first: 0 }
-    }
-}
 
 #[derive(Drop)]
 pub struct Store<'a> {

@@ -11,7 +11,7 @@ use Rattle.meaning.specs.Adding.{over}
 use Rattle.meaning.specs.File.{coded, decl-words}
 use Rattle.meaning.proofs.Over.{over-none}
 use Rattle.meaning.proofs.Files.{over-words}
-use Rattle.table.specs.Rows.{decl-of, head-words}
+use Rattle.rows.specs.Rows.{decl-of, head-words}
 use Rattle.table.specs.Kept.{row-length}
 use Rattle.table.proofs.Writes.{kept, void-words, void-length, row-words, row-bytes}
 use Rattle.table.proofs.encoding.put_row.Needs as need

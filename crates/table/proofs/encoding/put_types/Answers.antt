@@ -10,7 +10,7 @@ use Rattle.meaning.specs.Adding.{over}
 use Rattle.meaning.specs.File.{coded}
 use Rattle.meaning.proofs.Over.{over-none}
 use Rattle.meaning.proofs.Files.{length-coded}
-use Rattle.table.specs.declared.store.TypeRow.{TypeRow}
+use Rattle.rows.specs.declared.row.TypeRow.{TypeRow}
 use Rattle.table.specs.Kept.{row-length}
 use Rattle.table.proofs.Writes.{row-coded, rows-fit, rows-end, rows-long, rows-bytes, rows-part}
 use Rattle.table.proofs.encoding.put_types.Needs as need

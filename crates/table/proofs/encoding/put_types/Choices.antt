@@ -5,7 +5,7 @@ use Rattle.std.specs.Joined.{joined}
 use Rattle.std.specs.shelf.Lists.{sumBy}
 use Rattle.meaning.specs.Adding.{over}
 use Rattle.meaning.specs.File.{coded, decl-words}
-use Rattle.table.specs.Rows.{decl-of}
+use Rattle.rows.specs.Rows.{decl-of}
 use Rattle.table.specs.Kept.{row-length}
 use Rattle.table.proofs.encoding.put_types.Given as given
 

@@ -12,7 +12,7 @@ use Rattle.elements.specs.Packing.{packed}
 use Rattle.meaning.specs.Table.{Table, Outcome, holds, accepts}
 use Rattle.meaning.specs.Adding.{declaration-fault, room-fault, with-type}
 use Rattle.layout.specs.Info.{elements-of}
-use Rattle.table.specs.Kept.{row-of}
+use Rattle.rows.specs.Rows.{row-of}
 use Rattle.table.specs.Tables.{table-of}
 use Rattle.table.proofs.Stores.{Put}
 use Rattle.table.proofs.Checks.{type-refused, room-refused, type-accepted, declaration-none, room-none}

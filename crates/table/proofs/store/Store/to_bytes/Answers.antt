@@ -11,9 +11,9 @@ use Rattle.std.proofs.shelf.Lists.{getD-take, length-take-le}
 use Rattle.meaning.specs.Table.{text}
 use Rattle.meaning.specs.Adding.{over}
 use Rattle.meaning.specs.File.{header, type-part, type-bytes, file-length}
-use Rattle.table.specs.declared.store.TypeRow.{TypeRow}
+use Rattle.rows.specs.declared.row.TypeRow.{TypeRow}
 use Rattle.table.specs.Kept.{Placed, row-length, used-rows}
-use Rattle.table.specs.Rows.{decl-of}
+use Rattle.rows.specs.Rows.{decl-of}
 use Rattle.table.specs.Tables.{table-of}
 use Rattle.table.proofs.Encodes.{bytes-stated, encode-short, encode-fits, parts-put}
 use Rattle.table.proofs.Parts.{part-put}
