@@ -47,7 +47,7 @@ pub over-four : (at : ℕ) (bs out : List ℕ) → length bs ≡ 4 → at + 4 �
     set (set (set (set out at (getD bs 0 0)) (at + 1) (getD bs 1 0)) (at + 2) (getD bs 2 0)) (at + 3) (getD bs 3 0) ≡ over at bs out
 over-four at bs out four room =
     let none : set out at (getD bs 0 0) ≡ over at (take 1 bs) out =
-        ap (λ n. set out n (getD bs 0 0)) (sym (add-zero at)) ∙ over-take-more bs 0 at 0 out out (sym (over-none at out)) (omega arith) (omega arith) in
+    ap (λ n. set out n (getD bs 0 0)) (sym (add-zero at)) ∙ over-take-more bs 0 at 0 out out (sym (over-none at out)) (omega arith) (omega arith) in
     let one = over-take-more bs 1 at 0 _ out none (omega arith) (omega arith) in
     let two = over-take-more bs 2 at 0 _ out one (omega arith) (omega arith) in
     over-take-more bs 3 at 0 _ out two (omega arith) (omega arith) ∙ ap (λ l. over at l out) (take-all 4 bs (omega arith))

@@ -14,6 +14,6 @@ element-total width low count e =
     ⊎-elim
     (λ (some : 0 < width). mul-assoc 4 width low ∙ ap (λ n. 4 * (width * n)) (sym (e ∙ cond-true (ltb 0 width) low 0 (lt-ltb 0 width some))))
     (λ (none : width ≤ 0).
-        let z : width ≡ 0 = omega arith in
-        ap (λ w. 4 * w * low) z ∙ zero-mul low ∙ sym (ap (λ w. 4 * (w * count)) z ∙ ap (λ n. 4 * n) (zero-mul count)))
+    let z : width ≡ 0 = omega arith in
+    ap (λ w. 4 * w * low) z ∙ zero-mul low ∙ sym (ap (λ w. 4 * (w * count)) z ∙ ap (λ n. 4 * n) (zero-mul count)))
     (cases-lt 0 width)

@@ -66,7 +66,7 @@ pub length-stated : (d : Decl) (s : Sound d) → type-length (d .info) ≡ 4 * l
 length-stated d s =
     let k = s .kind in
     let by-kind : type-length (d .info) ≡ cond (eqb (kind-number k) 0) 0 (12 + 4 * extra-words k + 4 * element-words k * low-of (d .info)) =
-        ap (λ j. cond (eqb (kind-number j) 0) 0 (12 + 4 * extra-words j + 4 * element-words j * low-of (d .info))) (s .kind-is) in
+    ap (λ j. cond (eqb (kind-number j) 0) 0 (12 + 4 * extra-words j + 4 * element-words j * low-of (d .info))) (s .kind-is) in
     by-kind ∙ cond-false (eqb (kind-number k) 0) 0 _ (s .known) ∙ omega (arith, length-words d s, element-total (element-words k) (low-of (d .info)) (length (d .tail)) (s .counted))
 
 pub types-stated : (ds : List Decl) → All Sound ds → type-bytes ds ≡ word-bytes ds

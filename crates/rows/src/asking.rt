@@ -20,7 +20,11 @@ use layout::BtfKind;
 use layout::BtfType;
 
 // The name at an offset, which `holder` holds where the offset was not asked directly.
-pub fn string_at<'s>(strings: &'s [u8], holder: Option<u32>, offset: u32) -> Result<&'s [u8], BtfError>
+pub fn string_at<'s>(
+    strings: &'s [u8],
+    holder: Option<u32>,
+    offset: u32,
+) -> Result<&'s [u8], BtfError>
     ensures { λ r. ⌜ told (λ s. now s) r ≡ string-at (now (strings .entry)) holder offset ⌝ }
 {
     let at = strings.len().min(offset as usize);
@@ -29,7 +33,11 @@ pub fn string_at<'s>(strings: &'s [u8], holder: Option<u32>, offset: u32) -> Res
     if length < rest.len() {
         Ok(&rest[0..length])
     } else {
-        Err(BtfError::InvalidStringOffset { holder, element: None, offset })
+        Err(BtfError::InvalidStringOffset {
+            holder,
+            element: None,
+            offset,
+        })
     }
 }
 
@@ -40,20 +48,36 @@ pub fn type_by_id(rows: &[TypeRow], id: u32) -> Result<BtfType, BtfError>
     if at < rows.len() {
         Ok(rows[at].head)
     } else {
-        Err(BtfError::UnknownBtfType { holder: None, element: None, type_id: id })
+        Err(BtfError::UnknownBtfType {
+            holder: None,
+            element: None,
+            type_id: id,
+        })
     }
 }
 
-pub fn element_at(rows: &[TypeRow], elements: &[Element], id: u32, index: u32) -> Result<BtfElement, BtfError>
+pub fn element_at(
+    rows: &[TypeRow],
+    elements: &[Element],
+    id: u32,
+    index: u32,
+) -> Result<BtfElement, BtfError>
     ensures { λ r. ⌜ told (λ e. e) r ≡ element-at (map (decl-of (now (elements .entry))) (now (rows .entry))) id index ⌝ }
 {
     let at = id as usize;
     if rows.len() <= at {
-        return Err(BtfError::UnknownBtfType { holder: None, element: None, type_id: id });
+        return Err(BtfError::UnknownBtfType {
+            holder: None,
+            element: None,
+            type_id: id,
+        });
     }
     match row_element(&rows[at], elements, index as usize) {
         Some(element) => Ok(element),
-        None => Err(BtfError::NoSuchElement { type_id: id, element: index }),
+        None => Err(BtfError::NoSuchElement {
+            type_id: id,
+            element: index,
+        }),
     }
 }
 
@@ -64,7 +88,11 @@ pub fn type_name<'s>(rows: &[TypeRow], strings: &'s [u8], id: u32) -> Result<&'s
     if at < rows.len() {
         string_at(strings, Some(id), rows[at].head.name_offset)
     } else {
-        Err(BtfError::UnknownBtfType { holder: None, element: None, type_id: id })
+        Err(BtfError::UnknownBtfType {
+            holder: None,
+            element: None,
+            type_id: id,
+        })
     }
 }
 
@@ -104,7 +132,13 @@ fn same_bytes(a: &[u8], b: &[u8]) -> bool
 }
 
 // Whether a row has the kind and the name.
-fn is_named(row: &TypeRow, id: u32, strings: &[u8], name: &[u8], kind: BtfKind) -> Result<bool, BtfError>
+fn is_named(
+    row: &TypeRow,
+    id: u32,
+    strings: &[u8],
+    name: &[u8],
+    kind: BtfKind,
+) -> Result<bool, BtfError>
     ensures { λ r. ⌜ ((es : List element-type) (rest : Answer ℕ) → verdict id rest (told (λ b. b) r) ≡ find-here (decl-of es (now (row .entry))) (now (strings .entry)) (now (name .entry)) kind id rest) ⌝ }
 {
     if row.head.kind().number() != kind.number() {
@@ -120,7 +154,12 @@ fn is_named(row: &TypeRow, id: u32, strings: &[u8], name: &[u8], kind: BtfKind) 
 const MOST_DECLARATIONS: usize = 1_048_575;
 
 // The lowest id of a kind and name.
-pub fn id_by_type_name_kind(rows: &[TypeRow], strings: &[u8], name: &[u8], kind: BtfKind) -> Result<u32, BtfError>
+pub fn id_by_type_name_kind(
+    rows: &[TypeRow],
+    strings: &[u8],
+    name: &[u8],
+    kind: BtfKind,
+) -> Result<u32, BtfError>
     ensures { λ r. ⌜ ((es : List element-type) → told (λ n. n) r ≡ find-from (map (decl-of es) (take 1048575 (now (rows .entry)))) (now (strings .entry)) (now (name .entry)) kind 0) ⌝ }
 {
     let few = &rows[0..rows.len().min(MOST_DECLARATIONS)];

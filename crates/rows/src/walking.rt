@@ -25,7 +25,11 @@ fn followed(row: &TypeRow) -> Option<u32>
     ensures { λ r. ⌜ r ≡ cond (follows (kind-of (now (row .entry) .head .info))) (Some (now (row .entry) .head .«size_or_type»)) None ⌝ }
 {
     match row.head.kind() {
-        BtfKind::Volatile | BtfKind::Const | BtfKind::Restrict | BtfKind::Typedef | BtfKind::TypeTag => Some(row.head.size_or_type),
+        BtfKind::Volatile
+        | BtfKind::Const
+        | BtfKind::Restrict
+        | BtfKind::Typedef
+        | BtfKind::TypeTag => Some(row.head.size_or_type),
         _ => None,
     }
 }
@@ -39,7 +43,11 @@ pub fn resolve_type(rows: &[TypeRow], id: u32) -> Result<(u32, u32), BtfError>
     let mut holder = None;
     for links in 0..MAX_RESOLVE_DEPTH {
         if rows.len() <= at as usize {
-            return Err(BtfError::UnknownBtfType { holder, element: None, type_id: at });
+            return Err(BtfError::UnknownBtfType {
+                holder,
+                element: None,
+                type_id: at,
+            });
         }
         match followed(&rows[at as usize]) {
             Some(next) => {
@@ -65,9 +73,17 @@ fn repeated(at: u32, next: u32, product: u64) -> Step
     ensures { λ r. ⌜ move-of r ≡ product-onward at next product ⌝ }
 {
     if product <= u32::MAX as u64 {
-        Step::Onward { id: next, count: product as u32 }
+        Step::Onward {
+            id: next,
+            count: product as u32,
+        }
     } else {
-        Step::Stuck { fault: BtfError::InvalidTypeInfo { type_id: at, product } }
+        Step::Stuck {
+            fault: BtfError::InvalidTypeInfo {
+                type_id: at,
+                product,
+            },
+        }
     }
 }
 
@@ -76,9 +92,16 @@ fn measured(at: u32, product: u64) -> Step
     ensures { λ r. ⌜ move-of r ≡ product-ends at product ⌝ }
 {
     if product <= u32::MAX as u64 {
-        Step::Ends { size: product as u32 }
+        Step::Ends {
+            size: product as u32,
+        }
     } else {
-        Step::Stuck { fault: BtfError::InvalidTypeInfo { type_id: at, product } }
+        Step::Stuck {
+            fault: BtfError::InvalidTypeInfo {
+                type_id: at,
+                product,
+            },
+        }
     }
 }
 
@@ -98,7 +121,9 @@ fn size_step(row: &TypeRow, at: u32, count: u32, width: PointerWidth) -> Step
         | BtfKind::Float
         | BtfKind::Enum64 => measured(at, third as u64 * count as u64),
         BtfKind::Unknown | BtfKind::Fwd | BtfKind::Func | BtfKind::FuncProto => {
-            Step::Stuck { fault: BtfError::UnexpectedBtfType { type_id: at } }
+            Step::Stuck {
+                fault: BtfError::UnexpectedBtfType { type_id: at },
+            }
         }
         _ => Step::Onward { id: third, count },
     }
@@ -114,10 +139,17 @@ pub fn type_size(rows: &[TypeRow], id: u32, width: PointerWidth) -> Result<(u32,
     let mut count = 1;
     for links in 0..MAX_RESOLVE_DEPTH {
         if rows.len() <= at as usize {
-            return Err(BtfError::UnknownBtfType { holder, element: None, type_id: at });
+            return Err(BtfError::UnknownBtfType {
+                holder,
+                element: None,
+                type_id: at,
+            });
         }
         match size_step(&rows[at as usize], at, count, width) {
-            Step::Onward { id: next, count: more } => {
+            Step::Onward {
+                id: next,
+                count: more,
+            } => {
                 holder = Some(at);
                 at = next;
                 count = more;

@@ -39,7 +39,7 @@ module _ (s : Store) (types : List TypeRow) (begun : Begun s types) where
       let one = begun .type-count in
       let first : k ≡ 0 = omega arith in
       let row : getD (s .types .now) k d ≡ void-row =
-          ap (λ l. getD l k d) (begun .rows) ∙ ap (λ n. getD (set types 0 void-row) n d) first ∙ getD-set-same types 0 void-row d (begun .some) in
+      ap (λ l. getD l k d) (begun .rows) ∙ ap (λ n. getD (set types 0 void-row) n d) first ∙ getD-set-same types 0 void-row d (begun .some) in
       let none : Placed (s .«element_count») void-row = omega arith in
       subst P (sym row) none
 
@@ -67,5 +67,5 @@ module _ (s : Store) (types : List TypeRow) (begun : Begun s types) where
       let decls : map (decl-of (s .elements .now)) (used-rows s) ≡ void ∷ [] = ap (map (decl-of (s .elements .now))) one-row in
       let long : length (s .types .now) ≡ length types = ap length (begun .rows) ∙ length-set types 0 void-row in
       let full : table-of s (set old 0 0) ≡ record { decls = void ∷ []; area = set old 0 0; strings = 1; elements = 0; decl-room = length types; element-room = length (s .elements .now) } =
-          λ i. record { decls = decls i; area = set old 0 0; strings = begun .string-len i; elements = begun .element-count i; decl-room = long i; element-room = length (s .elements .now) } in
+      λ i. record { decls = decls i; area = set old 0 0; strings = begun .string-len i; elements = begun .element-count i; decl-room = long i; element-room = length (s .elements .now) } in
       full ∙ sym (rw (lt-ltb 0 (length types) (begun .some), lt-ltb 0 (length old) some-bytes))

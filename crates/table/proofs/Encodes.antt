@@ -27,7 +27,7 @@ module _ (o : Order) (t : Table) (buffer : List ℕ) (n : ℕ) (held : holds t �
   past-holds : cond (ltb (length buffer) (file-length t)) (record { answer = refused (refusal 17 None None (Some (file-length t))); buffer = buffer }) (record { answer = accepted (file-length t); buffer = over 0 (file o t) buffer }) ≡ encode o t buffer
   past-holds =
       sym (ap (λ b. cond (not b) (record { answer = refused no-table; buffer = buffer })
-          (cond (ltb (length buffer) (file-length t)) (record { answer = refused (refusal 17 None None (Some (file-length t))); buffer = buffer }) (record { answer = accepted (file-length t); buffer = over 0 (file o t) buffer }))) held)
+      (cond (ltb (length buffer) (file-length t)) (record { answer = refused (refusal 17 None None (Some (file-length t))); buffer = buffer }) (record { answer = accepted (file-length t); buffer = over 0 (file o t) buffer }))) held)
 
   pub encode-short : length buffer < n → _≡_ {A = Written} (record { answer = refused (refusal 17 None None (Some n)); buffer = buffer }) (encode o t buffer)
   encode-short h =
@@ -51,7 +51,7 @@ parts-put o t types behind out begun typed later stated place long strings room 
     let head-long = header-long o types (t .strings) in
     let place24 : 24 ≡ 0 + length head = omega arith in
     let first : typed ≡ over 0 (head ++ part) out =
-        d ∙ ap (over 24 part) b ∙ ap (λ n. over n part (over 0 head out)) place24 ∙ over-over 0 head part out (omega arith) in
+    d ∙ ap (over 24 part) b ∙ ap (λ n. over n part (over 0 head out)) place24 ∙ over-over 0 head part out (omega arith) in
     let ends : behind ≡ 0 + length (head ++ part) = omega (arith, length-append head part) in
     l ∙
     ap (over behind (text t)) first ∙

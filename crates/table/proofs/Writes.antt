@@ -85,7 +85,7 @@ module _ (row : TypeRow) (es : List Element) (extra width : ℕ) (tail : List El
       let info = row .head .info in
       let k = kind-of info in
       let count : length tail ≡ cond (ltb 0 (element-words k)) (low-of info) 0 =
-          ap length tails ∙ length-take (elements-of info) (drop (row .first) es) ∙ omega (arith, length-drop (row .first) es) in
+      ap length tails ∙ length-take (elements-of info) (drop (row .first) es) ∙ omega (arith, length-drop (row .first) es) in
       let total = element-total (element-words k) (low-of info) (length tail) count in
       let by-width : 4 * (width * length tail) ≡ 4 * (element-words k * length tail) = ap (λ n. 4 * (n * length tail)) widths in
       omega arith ∙ sym (cond-false (eqb (kind-number k) 0) 0 (12 + 4 * extra-words k + 4 * element-words k * low-of info) (ne-eqb _ 0 some))

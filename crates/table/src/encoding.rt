@@ -14,13 +14,13 @@ ghost use Rattle.rows.specs.declared.row.TypeRow.{TypeRow as row-type};
 ghost use Rattle.table.specs.Kept.{Kept, Placed, row-length};
 ghost use Rattle.rows.specs.Rows.{decl-of, head-words};
 ghost use Rattle.table.specs.Tables.{table-of, written};
-use rows::row_tail;
 use crate::store::Store;
-use rows::TypeRow;
 use elements::Element;
 use layout::BtfError;
 use layout::BtfType;
 use order::ByteOrder;
+use rows::TypeRow;
+use rows::row_tail;
 
 const MAGIC: u16 = 0xeb9f;
 
@@ -52,7 +52,13 @@ fn put_words<O: ByteOrder>(order: &O, out: &mut [u8], at: usize, words: &[u32]) 
 }
 
 // Writes the first `width` words of an element, and answers where they end.
-fn put_element<O: ByteOrder>(order: &O, out: &mut [u8], at: usize, element: &Element, width: usize) -> usize
+fn put_element<O: ByteOrder>(
+    order: &O,
+    out: &mut [u8],
+    at: usize,
+    element: &Element,
+    width: usize,
+) -> usize
     requires wide { ⌜ width ≤ 3 ⌝ }
     requires room { ⌜ at + 4 * width ≤ length (now out) ⌝ }
     ensures bytes { λ _. ⌜ now (out .exit) ≡ over at (coded (O·ByteOrder .order) (take width (now (element .entry) .words))) (now (out .entry)) ⌝ }
@@ -64,7 +70,13 @@ fn put_element<O: ByteOrder>(order: &O, out: &mut [u8], at: usize, element: &Ele
 }
 
 // Writes the elements of a tail, of `width` words each, and answers where they end: one text for every type.
-fn put_elements<O: ByteOrder>(order: &O, out: &mut [u8], at: usize, tail: &[Element], width: usize) -> usize
+fn put_elements<O: ByteOrder>(
+    order: &O,
+    out: &mut [u8],
+    at: usize,
+    tail: &[Element],
+    width: usize,
+) -> usize
     requires wide { ⌜ width ≤ 3 ⌝ }
     requires room { ⌜ at + 4 * (width * length (now tail)) ≤ length (now out) ⌝ }
     ensures bytes { λ _. ⌜ now (out .exit) ≡ over at (coded (O·ByteOrder .order) (joined (λ e. take width (e .words)) (now (tail .entry)))) (now (out .entry)) ⌝ }
@@ -79,7 +91,13 @@ fn put_elements<O: ByteOrder>(order: &O, out: &mut [u8], at: usize, tail: &[Elem
 }
 
 // Writes a head with so many extra words, and answers where it ends.
-fn put_head<O: ByteOrder>(order: &O, out: &mut [u8], at: usize, head: &BtfType, extra: usize) -> usize
+fn put_head<O: ByteOrder>(
+    order: &O,
+    out: &mut [u8],
+    at: usize,
+    head: &BtfType,
+    extra: usize,
+) -> usize
     requires few { ⌜ extra ≤ 3 ⌝ }
     requires room { ⌜ at + 12 + 4 * extra ≤ length (now out) ⌝ }
     ensures bytes { λ _. ⌜ now (out .exit) ≡ over at (coded (O·ByteOrder .order) (head-words (now (head .entry)) extra)) (now (out .entry)) ⌝ }
@@ -92,7 +110,13 @@ fn put_head<O: ByteOrder>(order: &O, out: &mut [u8], at: usize, head: &BtfType, 
 }
 
 // Writes a declaration, and answers where it ends.
-fn put_row<O: ByteOrder>(order: &O, out: &mut [u8], at: usize, row: &TypeRow, elements: &[Element]) -> usize
+fn put_row<O: ByteOrder>(
+    order: &O,
+    out: &mut [u8],
+    at: usize,
+    row: &TypeRow,
+    elements: &[Element],
+) -> usize
     requires placed { ⌜ Placed (length (now elements)) (now row) ⌝ }
     requires room { ⌜ at + row-length (now row) ≤ length (now out) ⌝ }
     ensures bytes { λ _. ⌜ now (out .exit) ≡ over at (coded (O·ByteOrder .order) (decl-words (decl-of (now (elements .entry)) (now (row .entry))))) (now (out .entry)) ⌝ }
@@ -104,11 +128,23 @@ fn put_row<O: ByteOrder>(order: &O, out: &mut [u8], at: usize, row: &TypeRow, el
         return at;
     }
     let behind = put_head(order, out, at, &row.head, kind.extra_words());
-    put_elements(order, out, behind, row_tail(row, elements), kind.element_words())
+    put_elements(
+        order,
+        out,
+        behind,
+        row_tail(row, elements),
+        kind.element_words(),
+    )
 }
 
 // Writes declarations one behind the other, in rising id order, and answers where they end.
-fn put_types<O: ByteOrder>(order: &O, out: &mut [u8], at: usize, rows: &[TypeRow], elements: &[Element]) -> usize
+fn put_types<O: ByteOrder>(
+    order: &O,
+    out: &mut [u8],
+    at: usize,
+    rows: &[TypeRow],
+    elements: &[Element],
+) -> usize
     requires placed { ⌜ ((k : ℕ) (d : row-type) → k < length (now rows) → Placed (length (now elements)) (getD (now rows) k d)) ⌝ }
     requires room { ⌜ at + sumBy row-length (now rows) ≤ length (now out) ⌝ }
     ensures bytes { λ _. ⌜ now (out .exit) ≡ over at (type-part (O·ByteOrder .order) (map (decl-of (now (elements .entry))) (now (rows .entry)))) (now (out .entry)) ⌝ }
@@ -138,7 +174,12 @@ fn put_header<O: ByteOrder>(order: &O, out: &mut [u8], types: u32, strings: u32)
 
 impl Store<'_> {
     // Writes the file into the buffer, and answers how many bytes it has.
-    pub fn to_bytes<O: ByteOrder>(&self, strings: &[u8], order: &O, out: &mut [u8]) -> Result<usize, BtfError>
+    pub fn to_bytes<O: ByteOrder>(
+        &self,
+        strings: &[u8],
+        order: &O,
+        out: &mut [u8],
+    ) -> Result<usize, BtfError>
         requires { ⌜ Kept (now self) ⌝ }
         ensures { λ r. ⌜ written r (now (out .exit)) ≡ encode (O·ByteOrder .order) (table-of (now (self .entry)) (now (strings .entry))) (now (out .entry)) ⌝ }
     {

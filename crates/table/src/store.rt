@@ -56,10 +56,14 @@ impl Store<'_> {
         ensures { λ r. ⌜ ((strings : List ℕ) → fault-said r ≡ room-fault (table-of (now (self .entry)) strings) count) ⌝ }
     {
         if self.types.len().min(MOST_DECLARATIONS) <= self.type_count {
-            return Some(BtfError::NoRoom { area: Area::Declarations });
+            return Some(BtfError::NoRoom {
+                area: Area::Declarations,
+            });
         }
         if self.elements.len().min(MOST_ELEMENTS) - self.element_count < count {
-            return Some(BtfError::NoRoom { area: Area::Elements });
+            return Some(BtfError::NoRoom {
+                area: Area::Elements,
+            });
         }
         None
     }
@@ -78,7 +82,10 @@ impl Store<'_> {
     {
         let id = self.type_count;
         let first = self.element_count;
-        self.types[id] = TypeRow { head, first: first as u32 };
+        self.types[id] = TypeRow {
+            head,
+            first: first as u32,
+        };
         put_tail(self.elements, first, tail);
         self.type_count = id + 1;
         self.element_count = first + tail.len();

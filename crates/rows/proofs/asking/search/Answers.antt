@@ -16,7 +16,7 @@ blank = record { head = record { «name_offset» = 0; info = 0; «size_or_type»
 pub returns-then-found : need.returns-then-found
 returns-then-found c es =
     sym (c .loop-at .inv es ∙ find-more (c .args .rows .now) es (c .args .strings .now) (c .args .name .now) (c .args .kind) (c .loop-at .at) blank (c .loop-at-test .taken) ∙
-        sym (c .in-Ok .ensures tt es _) ∙ ap (λ found. cond found (accepted (c .loop-at .at)) (find-from (drop (c .loop-at .at + 1) (map (decl-of es) (c .args .rows .now))) (c .args .strings .now) (c .args .name .now) (c .args .kind) (c .loop-at .at + 1))) (c .if-found .taken))
+    sym (c .in-Ok .ensures tt es _) ∙ ap (λ found. cond found (accepted (c .loop-at .at)) (find-from (drop (c .loop-at .at + 1) (map (decl-of es) (c .args .rows .now))) (c .args .strings .now) (c .args .name .now) (c .args .kind) (c .loop-at .at + 1))) (c .if-found .taken))
 
 pub returns-in-Err : need.returns-in-Err
 returns-in-Err c es =

@@ -47,11 +47,12 @@ returns-in-None c = record {
 }
 
 pub loop-links-again : need.loop-links-again
-loop-links-again c =
-    (omega arith,
-     λ es.
-         path-onward resolving (c .args .rows .now) es (c .args .id) _ (c .loop-links .holder) tt (c .loop-links .at) (c .loop-links .links) (c .loop-links .inv .1 es)
-         blank (c .loop-links-test .taken) (c .if-rows-at .left) _ tt (onward-by _ (c .loop-links .at) _ _ (c .in-Some .ensures tt)))
+loop-links-again c = (
+  omega arith,
+  λ es.
+      path-onward resolving (c .args .rows .now) es (c .args .id) _ (c .loop-links .holder) tt (c .loop-links .at) (c .loop-links .links) (c .loop-links .inv .1 es)
+      blank (c .loop-links-test .taken) (c .if-rows-at .left) _ tt (onward-by _ (c .loop-links .at) _ _ (c .in-Some .ensures tt)),
+)
 
 pub returns : need.returns
 returns c = record {

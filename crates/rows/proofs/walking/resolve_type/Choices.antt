@@ -11,5 +11,5 @@ abbrev pub Inv-loop-links : given.InvT-loop-links
 Inv-loop-links l =
     (l .at < 2 ^ 32) ×
     ((es : List Element) →
-        walk resolving 32 (map (decl-of es) (l .rows)) (l .id) None tt (l .id) 0 ≡
-        walk resolving (32 - l .links) (map (decl-of es) (l .rows)) (l .id) (l .holder) tt (l .at) (l .links))
+    walk resolving 32 (map (decl-of es) (l .rows)) (l .id) None tt (l .id) 0 ≡
+    walk resolving (32 - l .links) (map (decl-of es) (l .rows)) (l .id) (l .holder) tt (l .at) (l .links))

@@ -36,11 +36,13 @@ returns-in-Stuck c = record {
 }
 
 pub loop-links-again : need.loop-links-again
-loop-links-again c =
-    (omega arith, omega arith,
-     λ es.
-         path-onward (measuring (pointer-bytes (c .args .width))) (c .args .rows .now) es (c .args .id) _ (c .loop-links .holder) (c .loop-links .count) (c .loop-links .at) (c .loop-links .links) (c .loop-links .inv .2 es)
-         blank (c .loop-links-test .taken) (c .if-rows-at .left) _ _ (sym (c .in-Onward .ensures tt es)))
+loop-links-again c = (
+  omega arith,
+  omega arith,
+  λ es.
+      path-onward (measuring (pointer-bytes (c .args .width))) (c .args .rows .now) es (c .args .id) _ (c .loop-links .holder) (c .loop-links .count) (c .loop-links .at) (c .loop-links .links) (c .loop-links .inv .2 es)
+      blank (c .loop-links-test .taken) (c .if-rows-at .left) _ _ (sym (c .in-Onward .ensures tt es)),
+)
 
 pub returns : need.returns
 returns c = record {

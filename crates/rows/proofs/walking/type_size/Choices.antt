@@ -12,5 +12,5 @@ abbrev pub Inv-loop-links : given.InvT-loop-links
 Inv-loop-links l =
     (l .at < 2 ^ 32) × (l .count < 2 ^ 32) ×
     ((es : List Element) →
-        walk (measuring (pointer-bytes (l .width))) 32 (map (decl-of es) (l .rows)) (l .id) None 1 (l .id) 0 ≡
-        walk (measuring (pointer-bytes (l .width))) (32 - l .links) (map (decl-of es) (l .rows)) (l .id) (l .holder) (l .count) (l .at) (l .links))
+    walk (measuring (pointer-bytes (l .width))) 32 (map (decl-of es) (l .rows)) (l .id) None 1 (l .id) 0 ≡
+    walk (measuring (pointer-bytes (l .width))) (32 - l .links) (map (decl-of es) (l .rows)) (l .id) (l .holder) (l .count) (l .at) (l .links))

@@ -27,13 +27,14 @@ put-element-end-requires g c κs = record {
 
 pub loop-element-again : need.loop-element-again
 loop-element-again g c =
-    let i = c .loop-element .element-index in
-    (c .put-element-end .ensures .end ∙ elements-end (g .O·ByteOrder .order) (c .args .width) (c .args .at) i (c .loop-element .end) (c .args .tail .now) blank (c .put-element-end .last .out) (c .loop-element .out) (c .args .out .now)
-         (c .loop-element .inv .0) (c .loop-element .inv .1) (c .loop-element .inv .2) (c .loop-element-test .taken) (c .put-element-end .ensures .bytes) (c .put-element-end .ensures .long) (c .pre .room),
-     elements-long (g .O·ByteOrder .order) (c .args .width) (c .args .at) i (c .loop-element .end) (c .args .tail .now) blank (c .put-element-end .last .out) (c .loop-element .out) (c .args .out .now)
-         (c .loop-element .inv .0) (c .loop-element .inv .1) (c .loop-element .inv .2) (c .loop-element-test .taken) (c .put-element-end .ensures .bytes) (c .put-element-end .ensures .long) (c .pre .room),
-     elements-bytes (g .O·ByteOrder .order) (c .args .width) (c .args .at) i (c .loop-element .end) (c .args .tail .now) blank (c .put-element-end .last .out) (c .loop-element .out) (c .args .out .now)
-         (c .loop-element .inv .0) (c .loop-element .inv .1) (c .loop-element .inv .2) (c .loop-element-test .taken) (c .put-element-end .ensures .bytes) (c .put-element-end .ensures .long) (c .pre .room))
+    let i = c .loop-element .element-index in (
+      c .put-element-end .ensures .end ∙ elements-end (g .O·ByteOrder .order) (c .args .width) (c .args .at) i (c .loop-element .end) (c .args .tail .now) blank (c .put-element-end .last .out) (c .loop-element .out) (c .args .out .now)
+          (c .loop-element .inv .0) (c .loop-element .inv .1) (c .loop-element .inv .2) (c .loop-element-test .taken) (c .put-element-end .ensures .bytes) (c .put-element-end .ensures .long) (c .pre .room),
+      elements-long (g .O·ByteOrder .order) (c .args .width) (c .args .at) i (c .loop-element .end) (c .args .tail .now) blank (c .put-element-end .last .out) (c .loop-element .out) (c .args .out .now)
+          (c .loop-element .inv .0) (c .loop-element .inv .1) (c .loop-element .inv .2) (c .loop-element-test .taken) (c .put-element-end .ensures .bytes) (c .put-element-end .ensures .long) (c .pre .room),
+      elements-bytes (g .O·ByteOrder .order) (c .args .width) (c .args .at) i (c .loop-element .end) (c .args .tail .now) blank (c .put-element-end .last .out) (c .loop-element .out) (c .args .out .now)
+          (c .loop-element .inv .0) (c .loop-element .inv .1) (c .loop-element .inv .2) (c .loop-element-test .taken) (c .put-element-end .ensures .bytes) (c .put-element-end .ensures .long) (c .pre .room),
+    )
 
 pub returns : need.returns
 returns g c =

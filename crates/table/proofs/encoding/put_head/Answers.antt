@@ -17,9 +17,9 @@ returns g c =
     let long : length (take extra (h .extra)) ≡ extra = length-take extra (h .extra) ∙ omega arith in
     let whole : extra - 0 ≡ extra = omega arith in
     let put : c .put-words .last .out ≡ over (c .put-words-behind .result) (coded (g .O·ByteOrder .order) (take extra (h .extra))) (c .put-words-behind .last .out) =
-        c .put-words .ensures .bytes ∙ ap (λ n. over (c .put-words-behind .result) (coded (g .O·ByteOrder .order) (take n (h .extra))) (c .put-words-behind .last .out)) whole in
+    c .put-words .ensures .bytes ∙ ap (λ n. over (c .put-words-behind .result) (coded (g .O·ByteOrder .order) (take n (h .extra))) (c .put-words-behind .last .out)) whole in
     let end : c .put-words .result ≡ c .put-words-behind .result + 4 * length (take extra (h .extra)) =
-        c .put-words .ensures .end ∙ ap (λ n. c .put-words-behind .result + 4 * length (take n (h .extra))) whole in
+    c .put-words .ensures .end ∙ ap (λ n. c .put-words-behind .result + 4 * length (take n (h .extra))) whole in
     let behind : c .put-words-behind .result ≡ c .args .at + 12 = c .put-words-behind .ensures .end in
     record {
       bytes = over-words (g .O·ByteOrder .order) (h .«name_offset» ∷ h .info ∷ h .«size_or_type» ∷ []) (take extra (h .extra)) (c .args .at) (c .put-words-behind .result) (c .put-words .last .out) (c .put-words-behind .last .out) (c .args .out .now)

@@ -30,13 +30,14 @@ put-row-end-requires g c κs = record {
 pub loop-row-again : need.loop-row-again
 loop-row-again g c =
     let o = g .O·ByteOrder .order in
-    let i = c .loop-row .row-index in
-    (c .put-row-end .ensures .end ∙ rows-end o (c .args .elements .now) (c .args .at) i (c .loop-row .end) (c .args .rows .now) blank (c .put-row-end .last .out) (c .loop-row .out) (c .args .out .now)
-         (c .loop-row .inv .0) (c .loop-row .inv .1) (c .loop-row .inv .2) (c .loop-row-test .taken) (c .put-row-end .ensures .bytes) (c .put-row-end .ensures .long) (c .pre .room),
-     rows-long o (c .args .elements .now) (c .args .at) i (c .loop-row .end) (c .args .rows .now) blank (c .put-row-end .last .out) (c .loop-row .out) (c .args .out .now)
-         (c .loop-row .inv .0) (c .loop-row .inv .1) (c .loop-row .inv .2) (c .loop-row-test .taken) (c .put-row-end .ensures .bytes) (c .put-row-end .ensures .long) (c .pre .room),
-     rows-bytes o (c .args .elements .now) (c .args .at) i (c .loop-row .end) (c .args .rows .now) blank (c .put-row-end .last .out) (c .loop-row .out) (c .args .out .now)
-         (c .loop-row .inv .0) (c .loop-row .inv .1) (c .loop-row .inv .2) (c .loop-row-test .taken) (c .put-row-end .ensures .bytes) (c .put-row-end .ensures .long) (c .pre .room))
+    let i = c .loop-row .row-index in (
+      c .put-row-end .ensures .end ∙ rows-end o (c .args .elements .now) (c .args .at) i (c .loop-row .end) (c .args .rows .now) blank (c .put-row-end .last .out) (c .loop-row .out) (c .args .out .now)
+          (c .loop-row .inv .0) (c .loop-row .inv .1) (c .loop-row .inv .2) (c .loop-row-test .taken) (c .put-row-end .ensures .bytes) (c .put-row-end .ensures .long) (c .pre .room),
+      rows-long o (c .args .elements .now) (c .args .at) i (c .loop-row .end) (c .args .rows .now) blank (c .put-row-end .last .out) (c .loop-row .out) (c .args .out .now)
+          (c .loop-row .inv .0) (c .loop-row .inv .1) (c .loop-row .inv .2) (c .loop-row-test .taken) (c .put-row-end .ensures .bytes) (c .put-row-end .ensures .long) (c .pre .room),
+      rows-bytes o (c .args .elements .now) (c .args .at) i (c .loop-row .end) (c .args .rows .now) blank (c .put-row-end .last .out) (c .loop-row .out) (c .args .out .now)
+          (c .loop-row .inv .0) (c .loop-row .inv .1) (c .loop-row .inv .2) (c .loop-row-test .taken) (c .put-row-end .ensures .bytes) (c .put-row-end .ensures .long) (c .pre .room),
+    )
 
 pub returns : need.returns
 returns g c =
@@ -45,7 +46,7 @@ returns g c =
     let rows = c .args .rows .now in
     let all = take-all (c .loop-row .row-index) rows (c .loop-row-test .left) in
     let words-long : 4 * length (joined (row-coded es) rows) ≡ sumBy row-length rows =
-        sym (ap (λ l. 4 * length (joined (row-coded es) l)) all) ∙ c .loop-row .inv .1 ∙ ap (sumBy row-length) all in
+    sym (ap (λ l. 4 * length (joined (row-coded es) l)) all) ∙ c .loop-row .inv .1 ∙ ap (sumBy row-length) all in
     record {
       bytes = c .loop-row .inv .2 ∙ ap (λ l. over (c .args .at) (coded o (joined (row-coded es) l)) (c .args .out .now)) all ∙ ap (λ bs. over (c .args .at) bs (c .args .out .now)) (rows-part o rows es);
       long = ap length (sym (rows-part o rows es)) ∙ length-coded o (joined (row-coded es) rows) ∙ words-long;

@@ -32,10 +32,10 @@ put-types-text-requires g c κs =
     let P : List TypeRow → Type 0 = λ rows. (k : ℕ) (d : TypeRow) → k < length rows → Placed (length (s .elements .now)) (getD rows k d) in
     let Q : List TypeRow → Type 0 = λ rows. 24 + sumBy row-length rows ≤ length (c .put-header .last .out) in
     let used-placed : P (used-rows s) = λ k d h.
-            let short : k < s .«type_count» = omega (arith, length-take-le (s .«type_count») (s .types .now) (c .pre .rows-within)) in
-            let R : TypeRow → Type 0 = λ r. Placed (length (s .elements .now)) r in
-            let was = c .pre .placed k d short in
-            subst R (sym (getD-take (s .«type_count») (s .types .now) k d short)) (omega arith) in
+    let short : k < s .«type_count» = omega (arith, length-take-le (s .«type_count») (s .types .now) (c .pre .rows-within)) in
+    let R : TypeRow → Type 0 = λ r. Placed (length (s .elements .now)) r in
+    let was = c .pre .placed k d short in
+    subst R (sym (getD-take (s .«type_count») (s .types .now) k d short)) (omega arith) in
     let long = c .put-header .kept .out in
     let counted = c .pre .counted in
     record {
@@ -55,9 +55,9 @@ returns g c =
     let counted : sumBy row-length (used-rows s) ≡ bytes = sym (c .pre .counted) in
     let rows-part : type-part o (map (decl-of (s .elements .now)) (c .rows .result .now)) ≡ type-part o (t .decls) = ap (λ rows. type-part o (map (decl-of (s .elements .now)) rows)) (c .rows .ensures) in
     let long : length (type-part o (t .decls)) ≡ bytes =
-        ap length (sym rows-part) ∙ c .put-types-text .ensures .long ∙ ap (sumBy row-length) (c .rows .ensures) ∙ counted in
+    ap length (sym rows-part) ∙ c .put-types-text .ensures .long ∙ ap (sumBy row-length) (c .rows .ensures) ∙ counted in
     let behind : c .put-types-text .result ≡ 24 + bytes =
-        c .put-types-text .ensures .end ∙ ap (λ rows. 24 + sumBy row-length rows) (c .rows .ensures) ∙ ap (λ n. 24 + n) counted in
+    c .put-types-text .ensures .end ∙ ap (λ rows. 24 + sumBy row-length rows) (c .rows .ensures) ∙ ap (λ n. 24 + n) counted in
     let within : s .«string_len» ≤ length (c .args .strings .now) = leb-true (s .«string_len») (length (c .args .strings .now)) (and-parts (ltb 0 (length (t .decls))) (leb (s .«string_len») (length (c .args .strings .now))) held .1) in
     let whole : s .«string_len» - 0 ≡ s .«string_len» = omega arith in
     let copied : c .copy-from-slice .last .self ≡ text t = c .copy-from-slice .ensures .after ∙ ap (λ n. take n (c .args .strings .now)) whole in
@@ -65,9 +65,9 @@ returns g c =
     let size : needed - c .put-types-text .result ≡ length (c .copy-from-slice .last .self) = omega (arith, ap length copied) in
     let later = putMid (c .put-types-text .result) (needed - c .put-types-text .result) (c .put-types-text .last .out) (c .copy-from-slice .last .self) in
     let last : later ≡ over (c .put-types-text .result) (text t) (c .put-types-text .last .out) =
-        part-put (c .put-types-text .result) (needed - c .put-types-text .result) (c .put-types-text .last .out) (c .copy-from-slice .last .self) size ∙
-        ap (λ l. over (c .put-types-text .result) l (c .put-types-text .last .out)) copied in
+    part-put (c .put-types-text .result) (needed - c .put-types-text .result) (c .put-types-text .last .out) (c .copy-from-slice .last .self) size ∙
+    ap (λ l. over (c .put-types-text .result) l (c .put-types-text .last .out)) copied in
     encode-fits o t (c .args .out .now) needed held (ap (λ n. 24 + n + s .«string_len») stated) later (c .if-out-needed .left)
     (parts-put o t bytes (c .put-types-text .result) (c .args .out .now) (c .put-header .last .out) (c .put-types-text .last .out) later
-        stated behind long strings (subst (λ n. 24 + n + s .«string_len» ≤ length (c .args .out .now)) stated (c .if-out-needed .left))
-        (c .put-header .ensures) (c .put-types-text .ensures .bytes ∙ ap (λ bs. over 24 bs (c .put-header .last .out)) rows-part) last)
+    stated behind long strings (subst (λ n. 24 + n + s .«string_len» ≤ length (c .args .out .now)) stated (c .if-out-needed .left))
+    (c .put-header .ensures) (c .put-types-text .ensures .bytes ∙ ap (λ bs. over 24 bs (c .put-header .last .out)) rows-part) last)
