@@ -57,7 +57,9 @@ pub struct Int;
 impl Int {
     // The encodings, which btf.h gives as bits.
     pub const SIGNED: u32 = 1;
+
     pub const CHAR: u32 = 2;
+
     pub const BOOL: u32 = 4;
 
     pub fn new(name_offset: u32, size: u32, encoding: u32, offset: u32) -> Declaration
@@ -85,7 +87,12 @@ impl Array {
     pub fn new(name_offset: u32, element_type: u32, index_type: u32, len: u32) -> Declaration
         ensures { λ r. ⌜ r ≡ declared «name_offset» of.Array false 0 0 («element_type» ∷ «index_type» ∷ len ∷ []) ⌝ }
     {
-        plain(BtfKind::Array, name_offset, 0, [element_type, index_type, len])
+        plain(
+            BtfKind::Array,
+            name_offset,
+            0,
+            [element_type, index_type, len],
+        )
     }
 }
 
@@ -237,7 +244,12 @@ impl DeclTag {
     pub fn new(name_offset: u32, btf_type: u32, component: i32) -> Declaration
         ensures { λ r. ⌜ r ≡ declared «name_offset» of.DeclTag false 0 «btf_type» (signed-word component ∷ 0 ∷ 0 ∷ []) ⌝ }
     {
-        plain(BtfKind::DeclTag, name_offset, btf_type, [word_of(component), 0, 0])
+        plain(
+            BtfKind::DeclTag,
+            name_offset,
+            btf_type,
+            [word_of(component), 0, 0],
+        )
     }
 }
 

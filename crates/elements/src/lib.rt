@@ -63,7 +63,9 @@ pub impl ElementType for BtfEnum as EnumElement {
     }
 
     fn pack(&self) -> Element {
-        Element { words: [self.name_offset, self.value, 0] }
+        Element {
+            words: [self.name_offset, self.value, 0],
+        }
     }
 }
 
@@ -88,7 +90,9 @@ pub impl ElementType for BtfParam as ParamElement {
     }
 
     fn pack(&self) -> Element {
-        Element { words: [self.name_offset, self.btf_type, 0] }
+        Element {
+            words: [self.name_offset, self.btf_type, 0],
+        }
     }
 }
 
@@ -126,7 +130,9 @@ pub impl ElementType for BtfEnum64 as Enum64Element {
     }
 
     fn pack(&self) -> Element {
-        Element { words: [self.name_offset, self.value_low, self.value_high] }
+        Element {
+            words: [self.name_offset, self.value_low, self.value_high],
+        }
     }
 }
 
@@ -153,7 +159,9 @@ pub impl ElementType for BtfMember as MemberElement {
     }
 
     fn pack(&self) -> Element {
-        Element { words: [self.name_offset, self.btf_type, self.offset] }
+        Element {
+            words: [self.name_offset, self.btf_type, self.offset],
+        }
     }
 }
 
@@ -179,7 +187,9 @@ pub impl ElementType for DataSecEntry as EntryElement {
     }
 
     fn pack(&self) -> Element {
-        Element { words: [self.btf_type, self.offset, self.size] }
+        Element {
+            words: [self.btf_type, self.offset, self.size],
+        }
     }
 }
 
@@ -214,8 +224,14 @@ impl Element {
     {
         let [a, b, c] = self.words;
         match kind {
-            BtfKind::Enum => Some(BtfElement::Variant(BtfEnum { name_offset: a, value: b })),
-            BtfKind::FuncProto => Some(BtfElement::Param(BtfParam { name_offset: a, btf_type: b })),
+            BtfKind::Enum => Some(BtfElement::Variant(BtfEnum {
+                name_offset: a,
+                value: b,
+            })),
+            BtfKind::FuncProto => Some(BtfElement::Param(BtfParam {
+                name_offset: a,
+                btf_type: b,
+            })),
             BtfKind::Enum64 => Some(BtfElement::Variant64(BtfEnum64 {
                 name_offset: a,
                 value_low: b,

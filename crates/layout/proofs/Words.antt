@@ -86,7 +86,7 @@ pub kind-built : (kind : BtfKind) (flag : Bool) (low : ℕ) → low < 2 ^ 16 →
 kind-built kind flag low h =
     let small = kind-small kind in
     let field : (low + kind-number kind * 2 ^ 24 + cond flag (2 ^ 31) 0) / 2 ^ 24 % 2 ^ 5 ≡ kind-number kind =
-        elim flag as (λ f. (low + kind-number kind * 2 ^ 24 + cond f (2 ^ 31) 0) / 2 ^ 24 % 2 ^ 5 ≡ kind-number kind) [ true ↦ omega arith | false ↦ omega arith ] in
+    elim flag as (λ f. (low + kind-number kind * 2 ^ 24 + cond f (2 ^ 31) 0) / 2 ^ 24 % 2 ^ 5 ≡ kind-number kind) [ true ↦ omega arith | false ↦ omega arith ] in
     ap kind-at field ∙ kind-back kind
 
 pub low-built : (kind : BtfKind) (flag : Bool) (low : ℕ) → low < 2 ^ 16 → low-of (info-word kind flag low) ≡ low

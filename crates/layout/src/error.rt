@@ -14,11 +14,19 @@ pub enum Area {
 pub enum BtfError {
     // The table was made over an empty area, or the string area is shorter than its strings.
     NoTable,
-    InvalidTypeKind { kind: u32 },
+    InvalidTypeKind {
+        kind: u32,
+    },
     UnexpectedFlag,
-    InvalidLinkage { linkage: u32 },
-    TooManyElements { count: usize },
-    ZeroByteInName { place: usize },
+    InvalidLinkage {
+        linkage: u32,
+    },
+    TooManyElements {
+        count: usize,
+    },
+    ZeroByteInName {
+        place: usize,
+    },
     // A name offset with the declaration and the element that hold it, where one does.
     InvalidStringOffset {
         holder: Option<u32>,
@@ -31,13 +39,27 @@ pub enum BtfError {
         element: Option<u32>,
         type_id: u32,
     },
-    UnexpectedBtfType { type_id: u32 },
-    InvalidTypeInfo { type_id: u32, product: u64 },
-    MaximumTypeDepthReached { type_id: u32 },
+    UnexpectedBtfType {
+        type_id: u32,
+    },
+    InvalidTypeInfo {
+        type_id: u32,
+        product: u64,
+    },
+    MaximumTypeDepthReached {
+        type_id: u32,
+    },
     UnknownBtfTypeName,
-    NoRoom { area: Area },
-    OutputTooShort { needed: usize },
-    NoSuchElement { type_id: u32, element: u32 },
+    NoRoom {
+        area: Area,
+    },
+    OutputTooShort {
+        needed: usize,
+    },
+    NoSuchElement {
+        type_id: u32,
+        element: u32,
+    },
 }
 
 impl BtfError {

@@ -7,8 +7,11 @@ ghost use Rattle.layout.specs.Heads.{size-given, id-given};
 use crate::kind::BtfKind;
 
 const VLEN_MASK: u32 = 0xffff;
+
 const KIND_SHIFT: u32 = 24;
+
 const KIND_MASK: u32 = 0x1f;
+
 const FLAG_SHIFT: u32 = 31;
 
 // As btf.h's `struct btf_type`, with the words that follow it for some kinds: Int its data, Array its

@@ -66,7 +66,8 @@ impl BtfKind {
         ensures { λ r. ⌜ r ≡ takes-flag self ⌝ }
     {
         match self {
-            BtfKind::Struct | BtfKind::Union | BtfKind::Enum | BtfKind::Fwd | BtfKind::Enum64 => true,
+            BtfKind::Struct | BtfKind::Union | BtfKind::Enum | BtfKind::Fwd | BtfKind::Enum64 =>
+                true,
             _ => false,
         }
     }

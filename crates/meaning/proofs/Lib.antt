@@ -1,2 +1,4 @@
+pub mod Files
+pub mod Lengths
 pub mod Over
 pub mod Walks

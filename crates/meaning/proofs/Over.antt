@@ -23,7 +23,7 @@ module _ {X : Type 0} where
       let flen : length front ≡ n = simp (length-append, length-take) (omega arith) in
       let d : X = getD old n y in
       let split : over at new old ≡ front ++ (d ∷ drop (n + 1) old) =
-          sym (append-assoc (take at old) new (drop n old)) ∙ ap (λ r. front ++ r) (drop-more old n y h) in
+      sym (append-assoc (take at old) new (drop n old)) ∙ ap (λ r. front ++ r) (drop-more old n y h) in
       let more : at + length (new ++ y ∷ []) ≡ n + 1 = simp length-append (omega arith) in
       ap (λ l. set l n y) split ∙
       set-at front d (drop (n + 1) old) y n flen ∙
@@ -40,10 +40,10 @@ module _ {X : Type 0} where
       let split : over at a old ≡ front ++ drop n old = sym (append-assoc (take at old) a (drop n old)) in
       let all : at + length (a ++ b) ≡ n + length b = simp length-append (omega arith) in
       let back : drop (n + length b) (over at a old) ≡ drop (n + length b) old =
-          ap (drop (n + length b)) split ∙
-          sym (drop-drop (length b) n (front ++ drop n old)) ∙
-          ap (drop (length b)) (drop-at front (drop n old) n flen) ∙
-          drop-drop (length b) n old in
+      ap (drop (n + length b)) split ∙
+      sym (drop-drop (length b) n (front ++ drop n old)) ∙
+      ap (drop (length b)) (drop-at front (drop n old) n flen) ∙
+      drop-drop (length b) n old in
       ap (λ l. l ++ (b ++ drop (n + length b) (over at a old))) (ap (take n) split ∙ take-at front (drop n old) n flen) ∙
       ap (λ l. front ++ (b ++ l)) back ∙
       append-assoc (take at old) a (b ++ drop (n + length b) old) ∙
@@ -65,7 +65,7 @@ module _ {X Y : Type 0} (f : Y → X) where
       let new = map f (take i ys) in
       let nlen : length new ≡ i = simp (length-map, length-take) (omega arith) in
       let pushed : new ++ x ∷ [] ≡ map f (take (i + 1) ys) =
-          ap (λ z. new ++ z ∷ []) (e ∙ ap f read) ∙ sym (map-more f ys i y h) in
+      ap (λ z. new ++ z ∷ []) (e ∙ ap f read) ∙ sym (map-more f ys i y h) in
       ap (λ l. set l (at + i) x) inv ∙
       ap (λ n. set (over at new old) (at + n) x) (sym nlen) ∙
       over-more at new x old (omega arith) ∙

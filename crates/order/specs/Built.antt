@@ -7,7 +7,6 @@ use mathlib.Core.Path.{ap}
 use native.Mathlib.Omega.{arith}
 use Rattle.order.specs.Order.{Order, byte, little-half, little-word, big-half, big-word}
 
-
 pub half-apart : (m n : ℕ) → m < 2 ^ 16 → n < 2 ^ 16 → byte m 0 ≡ byte n 0 → byte m 8 ≡ byte n 8 → m ≡ n
 half-apart m n p q a b = omega arith
 

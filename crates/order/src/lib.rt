@@ -25,8 +25,9 @@ pub impl ByteOrder for LittleEndian as LittleEndianOrder {
     }
 
     fn word(&self, n: u32) -> [u8; 4] {
+        let low = (n & 0xff) as u8;
         [
-            (n & 0xff) as u8,
+            low,
             ((n >> 8) & 0xff) as u8,
             ((n >> 16) & 0xff) as u8,
             (n >> 24) as u8,
@@ -45,8 +46,9 @@ pub impl ByteOrder for BigEndian as BigEndianOrder {
     }
 
     fn word(&self, n: u32) -> [u8; 4] {
+        let high = (n >> 24) as u8;
         [
-            (n >> 24) as u8,
+            high,
             ((n >> 16) & 0xff) as u8,
             ((n >> 8) & 0xff) as u8,
             (n & 0xff) as u8,

@@ -2,36 +2,25 @@
 use mathlib.Core.Path.{_≡_, refl, ap, sym, _∙_}
 use mathlib.Core.Bool.{cond}
 use mathlib.Core.List.{List, [], _∷_, _++_}
-use mathlib.Core.Logic.{⊎-elim}
-use Prim.Native.Nat.{ℕ, _+_, _*_, _≤_, _<_}
-use native.Mathlib.Nat.{mul-assoc, zero-mul}
+use Prim.Native.Nat.{ℕ, _+_, _*_, _≤_}
 use native.Mathlib.Omega.{arith}
-use lib.Dec.{eqb, ltb}
+use lib.Dec.{eqb}
 use lib.ListN.{length, take, length-append, length-take}
 use Rattle.std.specs.Joined.{joined}
 use Rattle.std.specs.shelf.Lists.{All, sumBy}
 use Rattle.std.proofs.shelf.Bits.{mul-le}
 use Rattle.std.proofs.shelf.Elements.{all-append, all-take, all-weaker}
 use Rattle.std.proofs.shelf.Sums.{sumBy-cons}
-use Rattle.std.proofs.shelf.Tests.{cond-false, cond-true, lt-ltb, cases-lt}
+use Rattle.std.proofs.shelf.Tests.{cond-false}
 use Rattle.layout.specs.Kinds.{kind-number, extra-words, element-words}
 use Rattle.layout.specs.Info.{low-of, type-length}
 use Rattle.meaning.specs.Table.{Decl}
 use Rattle.meaning.specs.File.{decl-words, type-words, type-bytes}
+use Rattle.meaning.proofs.Lengths.{element-total}
 use Rattle.promises.specs.Calls.{Word}
 use Rattle.promises.proofs.Infos.{extra-small, element-small}
 use Rattle.promises.proofs.Parts.{length-joined, all-joined, joined-push}
 use Rattle.promises.proofs.Sound.{Sound, tail-length}
-
--- a kind without elements has none, whatever the low bits hold
-element-total : (width low count : ℕ) → count ≡ cond (ltb 0 width) low 0 → 4 * width * low ≡ 4 * (width * count)
-element-total width low count e =
-    ⊎-elim
-    (λ (some : 0 < width). mul-assoc 4 width low ∙ ap (λ n. 4 * (width * n)) (sym (e ∙ cond-true (ltb 0 width) low 0 (lt-ltb 0 width some))))
-    (λ (none : width ≤ 0).
-        let z : width ≡ 0 = omega arith in
-        ap (λ w. 4 * w * low) z ∙ zero-mul low ∙ sym (ap (λ w. 4 * (w * count)) z ∙ ap (λ n. 4 * n) (zero-mul count)))
-    (cases-lt 0 width)
 
 module _ (d : Decl) (s : Sound d) where
   pub words-are : decl-words d ≡ d .name ∷ d .info ∷ d .third ∷ (take (extra-words (s .kind)) (d .extra) ++ joined (λ e. e) (d .tail))
@@ -77,7 +66,7 @@ pub length-stated : (d : Decl) (s : Sound d) → type-length (d .info) ≡ 4 * l
 length-stated d s =
     let k = s .kind in
     let by-kind : type-length (d .info) ≡ cond (eqb (kind-number k) 0) 0 (12 + 4 * extra-words k + 4 * element-words k * low-of (d .info)) =
-        ap (λ j. cond (eqb (kind-number j) 0) 0 (12 + 4 * extra-words j + 4 * element-words j * low-of (d .info))) (s .kind-is) in
+    ap (λ j. cond (eqb (kind-number j) 0) 0 (12 + 4 * extra-words j + 4 * element-words j * low-of (d .info))) (s .kind-is) in
     by-kind ∙ cond-false (eqb (kind-number k) 0) 0 _ (s .known) ∙ omega (arith, length-words d s, element-total (element-words k) (low-of (d .info)) (length (d .tail)) (s .counted))
 
 pub types-stated : (ds : List Decl) → All Sound ds → type-bytes ds ≡ word-bytes ds

@@ -10,10 +10,11 @@ use Rattle.std.specs.shelf.Lists.{sumBy}
 use Rattle.std.proofs.shelf.Lists.{take-more-set, getD-set-same, length-set}
 use Rattle.std.proofs.shelf.Tests.{lt-ltb}
 use Rattle.meaning.specs.Table.{Table, made, void}
-use Rattle.table.specs.declared.store.TypeRow.{TypeRow}
+use Rattle.rows.specs.declared.row.TypeRow.{TypeRow}
 use Rattle.table.specs.declared.store.Store.{Store}
-use Rattle.table.specs.Rows.{decl-of}
-use Rattle.table.specs.Kept.{Kept, Placed, row-length, void-row, used-rows, holding}
+use Rattle.rows.specs.Rows.{decl-of}
+use Rattle.table.specs.Kept.{Kept, Placed, row-length, used-rows, holding}
+use Rattle.rows.specs.Rows.{void-row}
 use Rattle.table.specs.Tables.{table-of}
 
 -- what a store over areas with room begins as
@@ -38,7 +39,7 @@ module _ (s : Store) (types : List TypeRow) (begun : Begun s types) where
       let one = begun .type-count in
       let first : k ≡ 0 = omega arith in
       let row : getD (s .types .now) k d ≡ void-row =
-          ap (λ l. getD l k d) (begun .rows) ∙ ap (λ n. getD (set types 0 void-row) n d) first ∙ getD-set-same types 0 void-row d (begun .some) in
+      ap (λ l. getD l k d) (begun .rows) ∙ ap (λ n. getD (set types 0 void-row) n d) first ∙ getD-set-same types 0 void-row d (begun .some) in
       let none : Placed (s .«element_count») void-row = omega arith in
       subst P (sym row) none
 
@@ -66,5 +67,5 @@ module _ (s : Store) (types : List TypeRow) (begun : Begun s types) where
       let decls : map (decl-of (s .elements .now)) (used-rows s) ≡ void ∷ [] = ap (map (decl-of (s .elements .now))) one-row in
       let long : length (s .types .now) ≡ length types = ap length (begun .rows) ∙ length-set types 0 void-row in
       let full : table-of s (set old 0 0) ≡ record { decls = void ∷ []; area = set old 0 0; strings = 1; elements = 0; decl-room = length types; element-room = length (s .elements .now) } =
-          λ i. record { decls = decls i; area = set old 0 0; strings = begun .string-len i; elements = begun .element-count i; decl-room = long i; element-room = length (s .elements .now) } in
+      λ i. record { decls = decls i; area = set old 0 0; strings = begun .string-len i; elements = begun .element-count i; decl-room = long i; element-room = length (s .elements .now) } in
       full ∙ sym (rw (lt-ltb 0 (length types) (begun .some), lt-ltb 0 (length old) some-bytes))

@@ -1,12 +1,11 @@
 mod Begun
 mod Checks
 mod Counts
-mod Finds
+mod Encodes
 mod Lengths
-mod Lookups
 mod Maps
 mod Names
-mod Paths
-mod Same
+mod Parts
 mod Stores
 mod Tables
+mod Writes

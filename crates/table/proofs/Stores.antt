@@ -15,9 +15,10 @@ use Rattle.elements.specs.declared.Element.{Element}
 use Rattle.meaning.specs.Table.{most-decls, most-elements, most-strings}
 use Rattle.meaning.specs.Adding.{over}
 use Rattle.meaning.proofs.Over.{length-over}
-use Rattle.table.specs.declared.store.TypeRow.{TypeRow}
+use Rattle.rows.specs.declared.row.TypeRow.{TypeRow}
 use Rattle.table.specs.declared.store.Store.{Store}
-use Rattle.table.specs.Kept.{Kept, Placed, row-length, row-of, used-rows}
+use Rattle.table.specs.Kept.{Kept, Placed, row-length, used-rows}
+use Rattle.rows.specs.Rows.{row-of}
 use Rattle.table.proofs.Lengths.{length-bounded}
 
 -- a row put behind the others, with its elements
@@ -48,15 +49,15 @@ module _ (s t : Store) (head : BtfType) (new : List Element) (kept : Kept s) (pu
       let P : TypeRow → Type 0 = λ r. Placed (t .«element_count») r in
       ⊎-elim
       (λ (e : k ≡ s .«type_count»).
-          let same : getD (t .types .now) k d ≡ row = at ∙ ap (λ n. getD (set (s .types .now) (s .«type_count») row) n d) e ∙ getD-set-same (s .types .now) (s .«type_count») row d row-room in
-          let now-placed : Placed (t .«element_count») row = omega arith in
-          subst P (sym same) now-placed)
+      let same : getD (t .types .now) k d ≡ row = at ∙ ap (λ n. getD (set (s .types .now) (s .«type_count») row) n d) e ∙ getD-set-same (s .types .now) (s .«type_count») row d row-room in
+      let now-placed : Placed (t .«element_count») row = omega arith in
+      subst P (sym same) now-placed)
       (λ (o : (k < s .«type_count») ⊎ (s .«type_count» < k)).
-          let below : k < s .«type_count» = let n = put .type-count in ⊎-elim (λ (l : k < s .«type_count»). l) (λ (l : s .«type_count» < k). omega arith) o in
-          let other : getD (t .types .now) k d ≡ getD (s .types .now) k d = at ∙ getD-set-other (s .types .now) (s .«type_count») k row d (omega arith) in
-          let was = kept .placed k d below in
-          let still : Placed (t .«element_count») (getD (s .types .now) k d) = omega arith in
-          subst P (sym other) still)
+      let below : k < s .«type_count» = let n = put .type-count in ⊎-elim (λ (l : k < s .«type_count»). l) (λ (l : s .«type_count» < k). omega arith) o in
+      let other : getD (t .types .now) k d ≡ getD (s .types .now) k d = at ∙ getD-set-other (s .types .now) (s .«type_count») k row d (omega arith) in
+      let was = kept .placed k d below in
+      let still : Placed (t .«element_count») (getD (s .types .now) k d) = omega arith in
+      subst P (sym other) still)
       (cases-order k (s .«type_count»))
 
   pub kept-put : Kept t

@@ -23,10 +23,11 @@ use Rattle.elements.specs.Packing.{packed}
 use Rattle.meaning.specs.Table.{Decl}
 use Rattle.meaning.specs.Adding.{over, decl-with, with-type}
 use Rattle.meaning.proofs.Over.{length-over, take-over}
-use Rattle.table.specs.declared.store.TypeRow.{TypeRow}
+use Rattle.rows.specs.declared.row.TypeRow.{TypeRow}
 use Rattle.table.specs.declared.store.Store.{Store}
-use Rattle.table.specs.Rows.{kept-words, row-tail, decl-of}
-use Rattle.table.specs.Kept.{Kept, Placed, row-of, used-rows}
+use Rattle.rows.specs.Rows.{kept-words, row-tail, decl-of}
+use Rattle.table.specs.Kept.{Kept, Placed, used-rows}
+use Rattle.rows.specs.Rows.{row-of}
 use Rattle.table.specs.Tables.{table-of}
 use Rattle.table.proofs.Maps.{map-same}
 use Rattle.table.proofs.Stores.{Put, rows-push}
@@ -77,14 +78,14 @@ module _ (s t : Store) (head : BtfType) (new : List Element) (kept : Kept s) (pu
   decls-put strings tail back =
       let row = row-of head (s .«element_count») in
       let old-rows : map (decl-of (t .elements .now)) (used-rows s) ≡ map (decl-of (s .elements .now)) (used-rows s) =
-          map-same (decl-of (t .elements .now)) (decl-of (s .elements .now)) (used-rows s)
-          (λ k d l.
-              let short : k < s .«type_count» = omega (arith, length-take-le (s .«type_count») (s .types .now) (kept .rows-within)) in
-              let P : TypeRow → Type 0 = λ r. decl-of (t .elements .now) r ≡ decl-of (s .elements .now) r in
-              let at : getD (used-rows s) k d ≡ getD (s .types .now) k d = getD-take (s .«type_count») (s .types .now) k d short in
-              subst P (sym at) (old-same (getD (s .types .now) k d) (kept .placed k d short))) in
+      map-same (decl-of (t .elements .now)) (decl-of (s .elements .now)) (used-rows s)
+      (λ k d l.
+      let short : k < s .«type_count» = omega (arith, length-take-le (s .«type_count») (s .types .now) (kept .rows-within)) in
+      let P : TypeRow → Type 0 = λ r. decl-of (t .elements .now) r ≡ decl-of (s .elements .now) r in
+      let at : getD (used-rows s) k d ≡ getD (s .types .now) k d = getD-take (s .«type_count») (s .types .now) k d short in
+      subst P (sym at) (old-same (getD (s .types .now) k d) (kept .placed k d short))) in
       let new-row : decl-of (t .elements .now) row ≡ decl-with head tail =
-          ap (λ es. decl-with head (map (kept-words (head .info)) es)) new-elements ∙ ap (decl-with head) back in
+      ap (λ es. decl-with head (map (kept-words (head .info)) es)) new-elements ∙ ap (decl-with head) back in
       ap (map (decl-of (t .elements .now))) (rows-push s t head new put row-room) ∙
       map-push (decl-of (t .elements .now)) (used-rows s) row ∙
       ap (λ ds. ds ++ decl-of (t .elements .now) row ∷ []) old-rows ∙
@@ -167,10 +168,10 @@ module _ (s t : Store) (d : Declaration) (kind : BtfKind) (tail : List (List ℕ
       let as-long : length (map packed tail) ≡ length tail = length-map tail packed in
       let suits : elements-of (head .info) ≡ length (map packed tail) = head-elements d kind (length tail) few worded ∙ sym as-long in
       let wide : All (λ ws. length ws ≡ element-words (kind-of (head .info))) tail =
-          subst (λ k. All (λ ws. length ws ≡ element-words k) tail) (sym (head-kind d kind (length tail) few)) counted in
+      subst (λ k. All (λ ws. length ws ≡ element-words k) tail) (sym (head-kind d kind (length tail) few)) counted in
       let decls : table-of t strings .decls ≡ table-of s strings .decls ++ decl-with (head-kept d (kind-at (d .kind)) (length tail)) tail ∷ [] =
-          decls-put s t head (map packed tail) kept put row-room (omega arith) suits strings tail (tail-back (head .info) tail wide) ∙
-          ap (λ k. table-of s strings .decls ++ decl-with (head-kept d k (length tail)) tail ∷ []) known in
+      decls-put s t head (map packed tail) kept put row-room (omega arith) suits strings tail (tail-back (head .info) tail wide) ∙
+      ap (λ k. table-of s strings .decls ++ decl-with (head-kept d k (length tail)) tail ∷ []) known in
       let rows : length (t .types .now) ≡ length (s .types .now) = ap length (put .types) ∙ length-set (s .types .now) (s .«type_count») (row-of head (s .«element_count»)) in
       let elements : length (t .elements .now) ≡ length (s .elements .now) = ap length (put .elements) ∙ length-over (s .«element_count») (map packed tail) (s .elements .now) (omega arith) in
       let used : t .«element_count» ≡ s .«element_count» + length tail = put .element-count ∙ ap (λ n. s .«element_count» + n) as-long in

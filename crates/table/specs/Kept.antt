@@ -9,7 +9,7 @@ use Rattle.std.specs.shelf.Lists.{sumBy}
 use Rattle.layout.specs.Info.{elements-of, type-length}
 use Rattle.meaning.specs.Table.{most-decls, most-elements, most-strings}
 use Rattle.layout.specs.declared.head.BtfType.{BtfType}
-use Rattle.table.specs.declared.store.TypeRow.{TypeRow}
+use Rattle.rows.specs.declared.row.TypeRow.{TypeRow}
 use Rattle.table.specs.declared.store.Store.{Store}
 
 abbrev pub used-rows : Store → List TypeRow
@@ -31,12 +31,6 @@ pub record Kept (s : Store) : Type 0 where
   pub placed : (k : ℕ) (d : TypeRow) → k < s .«type_count» → Placed (s .«element_count») (getD (s .types .now) k d)
   pub counted : s .«type_bytes» ≡ sumBy row-length (used-rows s)
   pub bounded : s .«type_bytes» ≤ 24 * s .«type_count» + 12 * s .«element_count»
-
-abbrev pub row-of : BtfType → ℕ → TypeRow
-row-of head first = record { head = head; first = first }
-
-abbrev pub void-row : TypeRow
-void-row = row-of (record { «name_offset» = 0; info = 0; «size_or_type» = 0; extra = 0 ∷ 0 ∷ 0 ∷ [] }) 0
 
 -- whether areas of these lengths have room for id 0 and a zero byte
 abbrev pub holding : ℕ → ℕ → Bool

@@ -1,4 +1,2 @@
-pub mod Rows
 pub mod Kept
 pub mod Tables
-pub mod Walks

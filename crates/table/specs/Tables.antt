@@ -13,10 +13,11 @@ use Rattle.elements.specs.Packing.{packed}
 use Rattle.meaning.specs.Table.{Table, Outcome}
 use Rattle.meaning.specs.Adding.{over}
 use Rattle.meaning.specs.File.{Written}
-use Rattle.table.specs.declared.store.TypeRow.{TypeRow}
+use Rattle.rows.specs.declared.row.TypeRow.{TypeRow}
 use Rattle.table.specs.declared.store.Store.{Store}
-use Rattle.table.specs.Rows.{decl-of}
-use Rattle.table.specs.Kept.{used-rows, row-of}
+use Rattle.rows.specs.Rows.{decl-of}
+use Rattle.table.specs.Kept.{used-rows}
+use Rattle.rows.specs.Rows.{row-of}
 
 abbrev pub table-of : Store → List ℕ → Table
 table-of s area = record {

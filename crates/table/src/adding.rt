@@ -16,18 +16,25 @@ const MOST_ELEMENTS: usize = 65535;
 
 const LAST_LINKAGE: u32 = 3;
 
-pub fn declaration_fault<E: ElementType>(declaration: &Declaration, count: usize) -> Option<BtfError>
+pub fn declaration_fault<E: ElementType>(
+    declaration: &Declaration,
+    count: usize,
+) -> Option<BtfError>
     ensures { λ r. ⌜ fault-said r ≡ declaration-fault (now (declaration .entry)) serving count ⌝ }
 {
     let kind = BtfKind::from_number(declaration.kind);
     if kind.number() == 0 || (0 < count && !E::serves(kind)) {
-        return Some(BtfError::InvalidTypeKind { kind: declaration.kind });
+        return Some(BtfError::InvalidTypeKind {
+            kind: declaration.kind,
+        });
     }
     if declaration.flag && !kind.takes_flag() {
         return Some(BtfError::UnexpectedFlag);
     }
     if kind.has_linkage() && LAST_LINKAGE < declaration.linkage {
-        return Some(BtfError::InvalidLinkage { linkage: declaration.linkage });
+        return Some(BtfError::InvalidLinkage {
+            linkage: declaration.linkage,
+        });
     }
     if MOST_ELEMENTS < count {
         return Some(BtfError::TooManyElements { count });

@@ -3,7 +3,7 @@ ghost use mathlib.Core.Path.{_≡_};
 ghost use Prim.Native.Nat.{ℕ, _+_, _*_, _≤_, _<_};
 ghost use lib.ListN.{length, getD};
 ghost use Rattle.std.specs.shelf.Lists.{sumBy};
-ghost use Rattle.table.specs.declared.store.TypeRow.{TypeRow};
+ghost use Rattle.rows.specs.declared.row.TypeRow.{TypeRow};
 ghost use Rattle.table.specs.Kept.{Placed, row-length, used-rows};
 use crate::store::Store;
 

@@ -10,16 +10,17 @@ ghost use Rattle.layout.specs.Kinds.{element-words};
 ghost use Rattle.layout.specs.Refusals.{told};
 ghost use Rattle.meaning.specs.Adding.{over};
 ghost use Rattle.meaning.specs.File.{coded, header, decl-words, type-part, encode};
-ghost use Rattle.table.specs.declared.store.TypeRow.{TypeRow as row-type};
+ghost use Rattle.rows.specs.declared.row.TypeRow.{TypeRow as row-type};
 ghost use Rattle.table.specs.Kept.{Kept, Placed, row-length};
-ghost use Rattle.table.specs.Rows.{decl-of};
+ghost use Rattle.rows.specs.Rows.{decl-of, head-words};
 ghost use Rattle.table.specs.Tables.{table-of, written};
-use crate::asking::row_tail;
 use crate::store::Store;
-use crate::store::TypeRow;
 use elements::Element;
 use layout::BtfError;
+use layout::BtfType;
 use order::ByteOrder;
+use rows::TypeRow;
+use rows::row_tail;
 
 const MAGIC: u16 = 0xeb9f;
 
@@ -50,8 +51,32 @@ fn put_words<O: ByteOrder>(order: &O, out: &mut [u8], at: usize, words: &[u32]) 
     at + 4 * words.len()
 }
 
+// Writes the first `width` words of an element, and answers where they end.
+fn put_element<O: ByteOrder>(
+    order: &O,
+    out: &mut [u8],
+    at: usize,
+    element: &Element,
+    width: usize,
+) -> usize
+    requires wide { ⌜ width ≤ 3 ⌝ }
+    requires room { ⌜ at + 4 * width ≤ length (now out) ⌝ }
+    ensures bytes { λ _. ⌜ now (out .exit) ≡ over at (coded (O·ByteOrder .order) (take width (now (element .entry) .words))) (now (out .entry)) ⌝ }
+    ensures long { λ _. ⌜ length (take width (now (element .entry) .words)) ≡ width ⌝ }
+    ensures end { λ r. ⌜ r ≡ at + 4 * width ⌝ }
+{
+    let words = element.words();
+    put_words(order, out, at, &words[0..width])
+}
+
 // Writes the elements of a tail, of `width` words each, and answers where they end: one text for every type.
-fn put_elements<O: ByteOrder>(order: &O, out: &mut [u8], at: usize, tail: &[Element], width: usize) -> usize
+fn put_elements<O: ByteOrder>(
+    order: &O,
+    out: &mut [u8],
+    at: usize,
+    tail: &[Element],
+    width: usize,
+) -> usize
     requires wide { ⌜ width ≤ 3 ⌝ }
     requires room { ⌜ at + 4 * (width * length (now tail)) ≤ length (now out) ⌝ }
     ensures bytes { λ _. ⌜ now (out .exit) ≡ over at (coded (O·ByteOrder .order) (joined (λ e. take width (e .words)) (now (tail .entry)))) (now (out .entry)) ⌝ }
@@ -60,32 +85,66 @@ fn put_elements<O: ByteOrder>(order: &O, out: &mut [u8], at: usize, tail: &[Elem
 {
     let mut end = at;
     for element in tail {
-        end = put_words(order, out, end, &element.words()[0..width]);
+        end = put_element(order, out, end, element, width);
     }
     end
 }
 
+// Writes a head with so many extra words, and answers where it ends.
+fn put_head<O: ByteOrder>(
+    order: &O,
+    out: &mut [u8],
+    at: usize,
+    head: &BtfType,
+    extra: usize,
+) -> usize
+    requires few { ⌜ extra ≤ 3 ⌝ }
+    requires room { ⌜ at + 12 + 4 * extra ≤ length (now out) ⌝ }
+    ensures bytes { λ _. ⌜ now (out .exit) ≡ over at (coded (O·ByteOrder .order) (head-words (now (head .entry)) extra)) (now (out .entry)) ⌝ }
+    ensures long { λ _. ⌜ length (head-words (now (head .entry)) extra) ≡ 3 + extra ⌝ }
+    ensures end { λ r. ⌜ r ≡ at + 12 + 4 * extra ⌝ }
+{
+    let words = [head.name_offset, head.info, head.size_or_type];
+    let behind = put_words(order, out, at, &words);
+    put_words(order, out, behind, &head.extra[0..extra])
+}
+
 // Writes a declaration, and answers where it ends.
-fn put_type<O: ByteOrder>(order: &O, out: &mut [u8], at: usize, row: &TypeRow, elements: &[Element]) -> usize
+fn put_row<O: ByteOrder>(
+    order: &O,
+    out: &mut [u8],
+    at: usize,
+    row: &TypeRow,
+    elements: &[Element],
+) -> usize
     requires placed { ⌜ Placed (length (now elements)) (now row) ⌝ }
     requires room { ⌜ at + row-length (now row) ≤ length (now out) ⌝ }
     ensures bytes { λ _. ⌜ now (out .exit) ≡ over at (coded (O·ByteOrder .order) (decl-words (decl-of (now (elements .entry)) (now (row .entry))))) (now (out .entry)) ⌝ }
     ensures long { λ _. ⌜ 4 * length (decl-words (decl-of (now (elements .entry)) (now (row .entry)))) ≡ row-length (now (row .entry)) ⌝ }
     ensures end { λ r. ⌜ r ≡ at + row-length (now (row .entry)) ⌝ }
 {
-    let head = row.head;
-    let kind = head.kind();
+    let kind = row.head.kind();
     if kind.number() == 0 {
         return at;
     }
-    let words = [head.name_offset, head.info, head.size_or_type];
-    let extra = put_words(order, out, at, &words);
-    let tail = put_words(order, out, extra, &head.extra[0..kind.extra_words()]);
-    put_elements(order, out, tail, row_tail(row, elements), kind.element_words())
+    let behind = put_head(order, out, at, &row.head, kind.extra_words());
+    put_elements(
+        order,
+        out,
+        behind,
+        row_tail(row, elements),
+        kind.element_words(),
+    )
 }
 
 // Writes declarations one behind the other, in rising id order, and answers where they end.
-fn put_types<O: ByteOrder>(order: &O, out: &mut [u8], at: usize, rows: &[TypeRow], elements: &[Element]) -> usize
+fn put_types<O: ByteOrder>(
+    order: &O,
+    out: &mut [u8],
+    at: usize,
+    rows: &[TypeRow],
+    elements: &[Element],
+) -> usize
     requires placed { ⌜ ((k : ℕ) (d : row-type) → k < length (now rows) → Placed (length (now elements)) (getD (now rows) k d)) ⌝ }
     requires room { ⌜ at + sumBy row-length (now rows) ≤ length (now out) ⌝ }
     ensures bytes { λ _. ⌜ now (out .exit) ≡ over at (type-part (O·ByteOrder .order) (map (decl-of (now (elements .entry))) (now (rows .entry)))) (now (out .entry)) ⌝ }
@@ -94,7 +153,7 @@ fn put_types<O: ByteOrder>(order: &O, out: &mut [u8], at: usize, rows: &[TypeRow
 {
     let mut end = at;
     for row in rows {
-        end = put_type(order, out, end, row, elements);
+        end = put_row(order, out, end, row, elements);
     }
     end
 }
@@ -115,7 +174,12 @@ fn put_header<O: ByteOrder>(order: &O, out: &mut [u8], types: u32, strings: u32)
 
 impl Store<'_> {
     // Writes the file into the buffer, and answers how many bytes it has.
-    pub fn to_bytes<O: ByteOrder>(&self, strings: &[u8], order: &O, out: &mut [u8]) -> Result<usize, BtfError>
+    pub fn to_bytes<O: ByteOrder>(
+        &self,
+        strings: &[u8],
+        order: &O,
+        out: &mut [u8],
+    ) -> Result<usize, BtfError>
         requires { ⌜ Kept (now self) ⌝ }
         ensures { λ r. ⌜ written r (now (out .exit)) ≡ encode (O·ByteOrder .order) (table-of (now (self .entry)) (now (strings .entry))) (now (out .entry)) ⌝ }
     {

@@ -6,12 +6,11 @@ ghost use lib.ListN.{length, set};
 ghost use Rattle.std.specs.Results.{isOk};
 ghost use Rattle.meaning.specs.Table.{made};
 ghost use Rattle.meaning.specs.Adding.{add-string, add-type};
-ghost use Rattle.table.specs.Kept.{Kept, void-row, holding};
+ghost use Rattle.table.specs.Kept.{Kept, holding};
+ghost use Rattle.rows.specs.Rows.{void-row};
 ghost use Rattle.table.specs.Tables.{table-of, outcome, with-row, with-elements};
 use crate::adding::declaration_fault;
 use crate::store::Store;
-use crate::store::TypeRow;
-use crate::text::name_length;
 use crate::text::put_name;
 use elements::Element;
 use elements::ElementType;
@@ -19,11 +18,17 @@ use layout::Area;
 use layout::BtfError;
 use layout::BtfKind;
 use layout::Declaration;
+use rows::TypeRow;
+use rows::name_length;
 
 const MOST_STRINGS: usize = 16_777_215;
 
 impl<'a> Store<'a> {
-    pub fn new(types: &'a mut [TypeRow], elements: &'a mut [Element], strings: &mut [u8]) -> Store<'a>
+    pub fn new(
+        types: &'a mut [TypeRow],
+        elements: &'a mut [Element],
+        strings: &mut [u8],
+    ) -> Store<'a>
         ensures kept { λ r. ⌜ Kept r ⌝ }
         ensures table { λ r. ⌜ table-of r (now (strings .exit)) ≡ made (length (now (types .entry))) (length (now (elements .entry))) (now (strings .entry)) ⌝ }
         ensures types { λ r. ⌜ r .types .now ≡ cond (holding (length (now (types .entry))) (length (now (strings .entry)))) (set (now (types .entry)) 0 void-row) (now (types .entry)) ⌝ }
@@ -67,14 +72,21 @@ impl<'a> Store<'a> {
         }
         let at = self.string_len;
         if strings.len().min(MOST_STRINGS) - at <= name.len() {
-            return Err(BtfError::NoRoom { area: Area::Strings });
+            return Err(BtfError::NoRoom {
+                area: Area::Strings,
+            });
         }
         put_name(strings, at, name);
         self.string_len = at + name.len() + 1;
         Ok(at as u32)
     }
 
-    pub fn add_type<E: ElementType>(&mut self, strings: &[u8], declaration: &Declaration, elements: &[E]) -> Result<u32, BtfError>
+    pub fn add_type<E: ElementType>(
+        &mut self,
+        strings: &[u8],
+        declaration: &Declaration,
+        elements: &[E],
+    ) -> Result<u32, BtfError>
         requires { ⌜ Kept (now self) ⌝ }
         ensures kept { λ _. ⌜ Kept (now (self .exit)) ⌝ }
         ensures outcome { λ r. ⌜ outcome r (now (self .exit)) (now (strings .entry)) ≡ add-type (table-of (now (self .entry)) (now (strings .entry))) (now (declaration .entry)) serving (map meaning (now (elements .entry))) ⌝ }

@@ -7,7 +7,8 @@ ghost use Rattle.layout.specs.Info.{elements-of};
 ghost use Rattle.layout.specs.Refusals.{fault-said};
 ghost use Rattle.meaning.specs.Table.{holds};
 ghost use Rattle.meaning.specs.Adding.{room-fault};
-ghost use Rattle.table.specs.Kept.{Kept, row-of, void-row, used-rows};
+ghost use Rattle.table.specs.Kept.{Kept, used-rows};
+ghost use Rattle.rows.specs.Rows.{row-of};
 ghost use Rattle.table.specs.Tables.{table-of, with-elements};
 use crate::adding::put_tail;
 use elements::Element;
@@ -15,32 +16,11 @@ use elements::ElementType;
 use layout::Area;
 use layout::BtfError;
 use layout::BtfType;
+use rows::TypeRow;
 
 const MOST_DECLARATIONS: usize = 1_048_575;
 
 const MOST_ELEMENTS: usize = 2_097_152;
-
-// A declaration as the table keeps it: its head, and where its elements begin in the element area.
-#[derive(Clone, Copy)]
-pub struct TypeRow {
-    pub head: BtfType,
-    pub first: u32,
-}
-
-impl TypeRow {
-    // What fills an area before a table is made over it, and id 0.
-    pub fn empty() -> TypeRow
-        ensures { λ r. ⌜ r ≡ void-row ⌝ }
-    {
-        let head = BtfType {
-            name_offset: 0,
-            info: 0,
-            size_or_type: 0,
-            extra: [0, 0, 0],
-        };
-        TypeRow { head, first: 0 }
-    }
-}
 
 #[derive(Drop)]
 pub struct Store<'a> {
@@ -76,10 +56,14 @@ impl Store<'_> {
         ensures { λ r. ⌜ ((strings : List ℕ) → fault-said r ≡ room-fault (table-of (now (self .entry)) strings) count) ⌝ }
     {
         if self.types.len().min(MOST_DECLARATIONS) <= self.type_count {
-            return Some(BtfError::NoRoom { area: Area::Declarations });
+            return Some(BtfError::NoRoom {
+                area: Area::Declarations,
+            });
         }
         if self.elements.len().min(MOST_ELEMENTS) - self.element_count < count {
-            return Some(BtfError::NoRoom { area: Area::Elements });
+            return Some(BtfError::NoRoom {
+                area: Area::Elements,
+            });
         }
         None
     }
@@ -98,7 +82,10 @@ impl Store<'_> {
     {
         let id = self.type_count;
         let first = self.element_count;
-        self.types[id] = TypeRow { head, first: first as u32 };
+        self.types[id] = TypeRow {
+            head,
+            first: first as u32,
+        };
         put_tail(self.elements, first, tail);
         self.type_count = id + 1;
         self.element_count = first + tail.len();

@@ -12,7 +12,7 @@ use Rattle.elements.specs.Packing.{packed}
 use Rattle.meaning.specs.Table.{Table, Outcome, holds, accepts}
 use Rattle.meaning.specs.Adding.{declaration-fault, room-fault, with-type}
 use Rattle.layout.specs.Info.{elements-of}
-use Rattle.table.specs.Kept.{row-of}
+use Rattle.rows.specs.Rows.{row-of}
 use Rattle.table.specs.Tables.{table-of}
 use Rattle.table.proofs.Stores.{Put}
 use Rattle.table.proofs.Checks.{type-refused, room-refused, type-accepted, declaration-none, room-none}
@@ -62,9 +62,9 @@ put-type-requires g c κs =
     let rows = decl-count (c .args .self .now) (c .args .strings .now) (c .pre .rows-within) in
     let kind = kind-at (c .args .declaration .now .kind) in
     let worded : 0 < count → 0 < element-words kind =
-        λ some. subst (λ n. 0 < n) (sym (g .E·ElementType·met .suits kind (fine .serves some))) (g .E·ElementType·met .wide) in
+    λ some. subst (λ n. 0 < n) (sym (g .E·ElementType·met .suits kind (fine .serves some))) (g .E·ElementType·met .wide) in
     let head : c .head-head .result ≡ head-kept (c .args .declaration .now) kind count =
-        c .head-head .ensures ∙ ap (λ k. head-kept (c .args .declaration .now) k count) (c .from-number-kind .ensures) in
+    c .head-head .ensures ∙ ap (λ k. head-kept (c .args .declaration .now) k count) (c .from-number-kind .ensures) in
     record {
       kept = c .pre;
       row = (omega arith, omega arith);
@@ -87,21 +87,21 @@ returns g c =
     let kind = kind-at (d .kind) in
     let few : length tail ≤ 65535 = let f = fine .few in omega arith in
     let worded : 0 < length tail → 0 < element-words kind =
-        λ some. subst (λ n. 0 < n) (sym (g .E·ElementType·met .suits kind (fine .serves (subst (λ n. 0 < n) as-long some)))) (g .E·ElementType·met .wide) in
+    λ some. subst (λ n. 0 < n) (sym (g .E·ElementType·met .suits kind (fine .serves (subst (λ n. 0 < n) as-long some)))) (g .E·ElementType·met .wide) in
     let counted : All (λ ws. length ws ≡ element-words kind) tail =
-        all-mapped (λ ws. length ws ≡ element-words kind) (g .E·ElementType .meaning) (c .args .elements .now)
-        (λ some e. g .E·ElementType·met .counted e ∙ sym (g .E·ElementType·met .suits kind (fine .serves some))) in
+    all-mapped (λ ws. length ws ≡ element-words kind) (g .E·ElementType .meaning) (c .args .elements .now)
+    (λ some e. g .E·ElementType·met .counted e ∙ sym (g .E·ElementType·met .suits kind (fine .serves some))) in
     let head : c .head-head .result ≡ head-kept d kind (length tail) =
-        c .head-head .ensures ∙ ap (λ k. head-kept d k count) (c .from-number-kind .ensures) ∙ ap (head-kept d kind) (sym as-long) in
+    c .head-head .ensures ∙ ap (λ k. head-kept d k count) (c .from-number-kind .ensures) ∙ ap (head-kept d kind) (sym as-long) in
     let put : Put s later (head-kept d kind (length tail)) (map packed tail) = record {
-          types = c .put-type .ensures .types ∙ ap (λ h. set (s .types .now) (s .«type_count») (row-of h (s .«element_count»))) head;
-          elements = c .put-type .ensures .elements;
-          type-count = c .put-type .ensures .counts .0;
-          element-count = c .put-type .ensures .counts .1 .0 ∙ ap (λ n. s .«element_count» + n) (sym (length-map tail packed ∙ as-long));
-          string-len = c .put-type .ensures .counts .1 .1;
-        } in
+      types = c .put-type .ensures .types ∙ ap (λ h. set (s .types .now) (s .«type_count») (row-of h (s .«element_count»))) head;
+      elements = c .put-type .ensures .elements;
+      type-count = c .put-type .ensures .counts .0;
+      element-count = c .put-type .ensures .counts .1 .0 ∙ ap (λ n. s .«element_count» + n) (sym (length-map tail packed ∙ as-long));
+      string-len = c .put-type .ensures .counts .1 .1;
+    } in
     let whole : table-of later (c .args .strings .now) ≡ with-type t d tail =
-        table-put s later d kind tail (c .pre) put refl (omega arith) (omega arith) few worded counted (c .args .strings .now) in
+    table-put s later d kind tail (c .pre) put refl (omega arith) (omega arith) few worded counted (c .args .strings .now) in
     let id : c .put-type .result ≡ length (t .decls) = c .put-type .ensures .id ∙ sym rows in
     record {
       kept = c .put-type .ensures .kept;

@@ -3,7 +3,7 @@ use Prim.Native.Nat.{_<_}
 use native.Mathlib.Omega.{arith}
 use lib.ListN.{length, set}
 use Rattle.std.proofs.shelf.Tests.{lt-ltb}
-use Rattle.table.specs.Kept.{void-row}
+use Rattle.rows.specs.Rows.{void-row}
 use Rattle.table.specs.declared.store.Store.{Store}
 use Rattle.table.proofs.Begun.{Begun, kept-begun, table-begun}
 use Rattle.table.proofs.store.Store.new.Needs as need

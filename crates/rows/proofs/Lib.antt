@@ -1,0 +1,5 @@
+mod Finds
+mod Lookups
+mod Names
+mod Paths
+mod Same
