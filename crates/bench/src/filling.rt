@@ -2,6 +2,7 @@
 // values, Array, FuncProto with 2 params, Func, Var. Each brings a name of 12 bytes. A Typedef is of the Const
 // of the ten before, and a Const of the Typedef before it, so that links make chains, 16 tens long.
 use crate::fault::Fault;
+use crate::fault::FaultFromRefused;
 use declare::Array;
 use declare::Const;
 use declare::Enum;
@@ -16,6 +17,9 @@ use elements::BtfEnum;
 use elements::BtfMember;
 use elements::BtfParam;
 use elements::Element;
+use elements::EnumElement;
+use elements::MemberElement;
+use elements::ParamElement;
 use layout::BtfError;
 use layout::Declaration;
 use layout::Linkage;
@@ -86,26 +90,60 @@ fn add_alone(table: &mut Btf, names: &[u8], declaration: &Declaration) -> Result
 }
 
 fn add_record(table: &mut Btf, names: &[u8], name: u32, int: u32) -> Result<u32, BtfError> {
-    let first = BtfMember { name_offset: name, btf_type: int, offset: 0 };
-    let second = BtfMember { name_offset: name, btf_type: int, offset: 32 };
-    let third = BtfMember { name_offset: name, btf_type: int, offset: 64 };
-    table.add_type(names, &Struct::new(name, false, 12), &[first, second, third])
+    let first = BtfMember {
+        name_offset: name,
+        btf_type: int,
+        offset: 0,
+    };
+    let second = BtfMember {
+        name_offset: name,
+        btf_type: int,
+        offset: 32,
+    };
+    let third = BtfMember {
+        name_offset: name,
+        btf_type: int,
+        offset: 64,
+    };
+    table.add_type(
+        names,
+        &Struct::new(name, false, 12),
+        &[first, second, third],
+    )
 }
 
 fn add_enum(table: &mut Btf, names: &[u8], name: u32) -> Result<u32, BtfError> {
-    let off = BtfEnum { name_offset: name, value: 0 };
-    let on = BtfEnum { name_offset: name, value: 1 };
+    let off = BtfEnum {
+        name_offset: name,
+        value: 0,
+    };
+    let on = BtfEnum {
+        name_offset: name,
+        value: 1,
+    };
     table.add_type(names, &Enum::new(name, false), &[off, on])
 }
 
 fn add_proto(table: &mut Btf, names: &[u8], name: u32, recent: &Recent) -> Result<u32, BtfError> {
-    let first = BtfParam { name_offset: name, btf_type: recent.int };
-    let second = BtfParam { name_offset: name, btf_type: recent.record };
+    let first = BtfParam {
+        name_offset: name,
+        btf_type: recent.int,
+    };
+    let second = BtfParam {
+        name_offset: name,
+        btf_type: recent.record,
+    };
     table.add_type(names, &FuncProto::new(recent.int), &[first, second])
 }
 
 // Adds a name and the declaration of a place among the ten.
-fn add_next(table: &mut Btf, names: &mut [u8], label: &Label, place: usize, recent: &mut Recent) -> Result<(), BtfError> {
+fn add_next(
+    table: &mut Btf,
+    names: &mut [u8],
+    label: &Label,
+    place: usize,
+    recent: &mut Recent,
+) -> Result<(), BtfError> {
     let name = table.add_string(names, label)?;
     match place {
         0 => recent.int = add_alone(table, names, &Int::new(name, 4, 0, 0))?,
@@ -119,14 +157,26 @@ fn add_next(table: &mut Btf, names: &mut [u8], label: &Label, place: usize, rece
             add_enum(table, names, name)?;
         }
         6 => {
-            add_alone(table, names, &Array::new(name, recent.record, recent.int, 8))?;
+            add_alone(
+                table,
+                names,
+                &Array::new(name, recent.record, recent.int, 8),
+            )?;
         }
         7 => recent.proto = add_proto(table, names, name, recent)?,
         8 => {
-            add_alone(table, names, &Func::new(name, recent.proto, Linkage::Global))?;
+            add_alone(
+                table,
+                names,
+                &Func::new(name, recent.proto, Linkage::Global),
+            )?;
         }
         _ => {
-            add_alone(table, names, &Var::new(name, recent.record, Linkage::Global))?;
+            add_alone(
+                table,
+                names,
+                &Var::new(name, recent.record, Linkage::Global),
+            )?;
         }
     }
     Ok(())
@@ -134,7 +184,13 @@ fn add_next(table: &mut Btf, names: &mut [u8], label: &Label, place: usize, rece
 
 // Adds a declaration for each label.
 pub fn fill(table: &mut Btf, names: &mut [u8], labels: &[Label]) -> Result<(), BtfError> {
-    let mut recent = Recent { int: 0, record: 0, alias: 0, constant: 0, proto: 0 };
+    let mut recent = Recent {
+        int: 0,
+        record: 0,
+        alias: 0,
+        constant: 0,
+        proto: 0,
+    };
     for (i, label) in labels.iter().enumerate() {
         // at its first Typedef a chain begins anew, from an Int
         if i % (10 * TENS) == 3 {

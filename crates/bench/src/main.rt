@@ -15,8 +15,13 @@ mod timing;
 use crate::fault::Fault;
 use crate::fault::FaultDebug;
 use crate::fault::FaultError;
+use crate::fault::FaultFromAlloc;
+use crate::fault::FaultFromIo;
+use crate::fault::FaultFromRefused;
 use crate::filling::LARGEST;
 use crate::filling::SMALLEST;
+use crate::measuring::Measured;
+use crate::measuring::MeasuredDisplay;
 use crate::measuring::measure;
 use std::env;
 use std::error::AnyError;
@@ -49,10 +54,13 @@ fn size_of(word: &str) -> Result<usize, Fault> {
 fn run(rt: &LibcRuntime) -> Result<(), Fault> {
     let sizes = sizes_of(rt)?;
     if sizes.is_empty() {
-        println!(rt, "usage: bench all | SIZE.., each of {SMALLEST} to {LARGEST} declarations")?;
+        println!(
+            rt,
+            "usage: bench all | SIZE.., each of {SMALLEST} to {LARGEST} declarations"
+        )?;
         return Ok(());
     }
-    println!(rt, "declarations  file bytes  build ms  encode ms  encode MB/s   copy ms  copy MB/s  encode/copy  search us  walk ns  checksum")?;
+    println!(rt, "{}", Measured::HEADING)?;
     for size in sizes {
         println!(rt, "{}", measure(rt, size)?)?;
     }

@@ -1,54 +1,74 @@
 // All times of one size, and the row that says them.
 use crate::fault::Fault;
+use crate::fault::FaultFromAlloc;
+use crate::fault::FaultFromTable;
 use crate::filling::Label;
 use crate::filling::SMALLEST;
 use crate::filling::empty_elements;
 use crate::filling::empty_rows;
 use crate::filling::fill;
 use crate::filling::labels;
+use crate::timing::Plan;
 use crate::timing::time_building;
-use crate::timing::time_copy;
+use crate::timing::time_copying;
 use crate::timing::time_encoding;
-use crate::timing::time_search;
-use crate::timing::time_walks;
+use crate::timing::time_searching;
+use crate::timing::time_walking;
 use layout::BtfError;
+use layout::BtfKind;
 use order::LittleEndian;
+use order::LittleEndianOrder;
 use std::fmt;
 use std::num::nearest_u64_to_f64;
-use std::time::Duration;
 use table::Btf;
 
+// A walk takes the same time at every size, but for what the caches hold.
+const WALKS: Plan = Plan {
+    works: 100_000,
+    rounds: 20,
+};
+
+// Times are in seconds.
 #[derive(Clone, Copy)]
 pub struct Measured {
     size: usize,
     bytes: usize,
-    build: Duration,
-    encode: Duration,
-    copy: Duration,
-    search: Duration,
-    walks: Duration,
-    walk_count: usize,
+    build: f64,
+    encode: f64,
+    copy: f64,
+    search: f64,
+    walk: f64,
     checksum: u64,
 }
 
-fn number(n: usize) -> f64 {
-    nearest_u64_to_f64(n as u64)
-}
+impl Measured {
+    pub const HEADING: &'static str =
+        "declarations  file bytes  build us  encode us  encode MB/s  copy us  copy MB/s  encode/copy  search us  walk ns  checksum";
 
-// Megabytes a second.
-fn speed(bytes: usize, span: Duration) -> f64 {
-    number(bytes) / 1e6 / span.as_secs_f64()
+    // Megabytes of the file a second.
+    fn speed(&self, seconds: f64) -> f64 {
+        nearest_u64_to_f64(self.bytes as u64) / 1e6 / seconds
+    }
 }
 
 pub impl fmt::Display for Measured as MeasuredDisplay {
     fn fmt<W: fmt::Write>(&self, f: &mut fmt::Formatter<W>) -> fmt::Result {
         write!(f, "{:>12}  {:>10}", self.size, self.bytes)?;
-        write!(f, "  {:>8.3}  {:>9.3}", self.build.as_secs_f64() * 1e3, self.encode.as_secs_f64() * 1e3)?;
-        write!(f, "  {:>11.1}  {:>8.3}", speed(self.bytes, self.encode), self.copy.as_secs_f64() * 1e3)?;
-        write!(f, "  {:>9.1}", speed(self.bytes, self.copy))?;
-        write!(f, "  {:>11.1}", self.encode.as_secs_f64() / self.copy.as_secs_f64())?;
-        write!(f, "  {:>9.1}", self.search.as_secs_f64() * 1e6)?;
-        write!(f, "  {:>7.1}", self.walks.as_secs_f64() * 1e9 / number(self.walk_count))?;
+        write!(f, "  {:>8.1}", self.build * 1e6)?;
+        write!(
+            f,
+            "  {:>9.1}  {:>11.0}",
+            self.encode * 1e6,
+            self.speed(self.encode)
+        )?;
+        write!(
+            f,
+            "  {:>7.1}  {:>9.0}",
+            self.copy * 1e6,
+            self.speed(self.copy)
+        )?;
+        write!(f, "  {:>11.1}", self.encode / self.copy)?;
+        write!(f, "  {:>9.1}  {:>7.0}", self.search * 1e6, self.walk * 1e9)?;
         write!(f, "  {:016x}", self.checksum)
     }
 }
@@ -61,11 +81,6 @@ fn checksum_of(bytes: &[u8]) -> u64 {
     sum
 }
 
-// So many rounds that a small table is timed often.
-fn rounds_of(size: usize) -> usize {
-    (8_000_000 / size.max(1)).clamp(5, 2000)
-}
-
 // How many bytes the file of a table has, as the refusal of an empty buffer says.
 fn file_length(table: &Btf, names: &[u8]) -> Result<usize, BtfError> {
     match table.to_bytes(names, &LittleEndian, &mut []) {
@@ -75,22 +90,39 @@ fn file_length(table: &Btf, names: &[u8]) -> Result<usize, BtfError> {
     }
 }
 
-// Times a built table whose last name is `last`.
-fn measure_built(rt: &LibcRuntime, table: &Btf, names: &mut [u8], last: &Label, size: usize) -> Result<Measured, Fault> {
+// Times a table that took `build` seconds to build and whose last name is `last`.
+fn measure_built(
+    rt: &LibcRuntime,
+    table: &Btf,
+    names: &mut [u8],
+    last: &Label,
+    size: usize,
+    build: f64,
+) -> Result<Measured, Fault> {
     let heap = rt.alloc();
-    let rounds = rounds_of(size);
+    let plan = Plan::for_size(size);
     let bytes = file_length(table, names)?;
     let mut out = vec![in heap; 0u8; bytes]?;
-    let mut copy = vec![in heap; 0u8; bytes]?;
-    let encode = time_encoding(rt, table, names, out.as_mut_slice(), rounds)?;
-    let copied = time_copy(rt, out.as_slice(), copy.as_mut_slice(), rounds)?;
-    let search = time_search(rt, table, names, last, rounds)?;
-    let (walks, walk_count) = time_walks(rt, table, names, size / SMALLEST, 5)?;
+    let mut copied = vec![in heap; 0u8; bytes]?;
+    let encode = time_encoding(rt, table, names, out.as_mut_slice(), plan)?;
+    let copy = time_copying(rt, out.as_slice(), copied.as_mut_slice(), plan)?;
+    let id = table.id_by_type_name_kind(names, last, BtfKind::Var)?;
+    let search = time_searching(rt, table, names, last, id, plan)?;
+    let walk = time_walking(rt, table, names, size / SMALLEST, WALKS)?;
     let checksum = checksum_of(out.as_slice());
-    if checksum != checksum_of(copy.as_slice()) {
+    if checksum != checksum_of(copied.as_slice()) {
         return Err(Fault::Unlike);
     }
-    Ok(Measured { size, bytes, build: Duration::ZERO, encode, copy: copied, search, walks, walk_count, checksum })
+    Ok(Measured {
+        size,
+        bytes,
+        build,
+        encode,
+        copy,
+        search,
+        walk,
+        checksum,
+    })
 }
 
 pub fn measure(rt: &LibcRuntime, size: usize) -> Result<Measured, Fault> {
@@ -104,9 +136,19 @@ pub fn measure(rt: &LibcRuntime, size: usize) -> Result<Measured, Fault> {
     // the empty name, the names, and a byte that is no name's
     let room = size.saturating_mul(13).saturating_add(2);
     let mut names = vec![in heap; 0u8; room]?;
-    let build = time_building(rt, rows.as_mut_slice(), elements.as_mut_slice(), names.as_mut_slice(), all.as_slice(), rounds_of(size))?;
-    let mut table = Btf::new(rows.as_mut_slice(), elements.as_mut_slice(), names.as_mut_slice());
+    let build = time_building(
+        rt,
+        rows.as_mut_slice(),
+        elements.as_mut_slice(),
+        names.as_mut_slice(),
+        all.as_slice(),
+        Plan::for_size(size),
+    )?;
+    let mut table = Btf::new(
+        rows.as_mut_slice(),
+        elements.as_mut_slice(),
+        names.as_mut_slice(),
+    );
     fill(&mut table, names.as_mut_slice(), all.as_slice())?;
-    let measured = measure_built(rt, &table, names.as_mut_slice(), last, size)?;
-    Ok(Measured { build, ..measured })
+    measure_built(rt, &table, names.as_mut_slice(), last, size, build)
 }

@@ -4,7 +4,7 @@ ghost use Prim.Native.Nat.{ℕ, _≤_, _<_};
 ghost use lib.ListN.{length};
 ghost use Rattle.std.specs.Options.{Cases as BySome};
 ghost use Rattle.std.specs.Vec.{made};
-ghost use Rattle.meters.specs.Sheets.{Without, First, Split, Lacks, AllPrintable, Named};
+ghost use Rattle.meters.specs.Sheets.{First, Split, Lacks, AllPrintable, Named, Fields, order-word};
 use crate::files::Endian;
 use std::fmt;
 use std::io;
@@ -186,7 +186,9 @@ pub struct Row<'a> {
 }
 
 impl<'a> Row<'a> {
-    pub fn cut(line: &'a [u8]) -> Result<Row<'a>, Malformed> {
+    pub fn cut(line: &'a [u8]) -> Result<Row<'a>, Malformed>
+        ensures { λ r. ⌜ made r (λ row. Fields (now (line .entry)) (now (row .name)) (now (row .order)) (now (row .kernel)) × Named (now (row .name))) ⌝ }
+    {
         let fault = Malformed::Fields {
             count: count_of(line, b',').saturating_add(1),
         };
@@ -196,22 +198,26 @@ impl<'a> Row<'a> {
         let Some((order, kernel)) = split_once(rest, b',') else {
             return Err(fault);
         };
-        if kernel.contains(&b',') {
-            return Err(fault);
+        match place_of(kernel, b',') {
+            Some(_) => Err(fault),
+            None => {
+                let name = checked_name(name)?;
+                Ok(Row {
+                    name,
+                    order,
+                    kernel,
+                })
+            }
         }
-        let name = checked_name(name)?;
-        Ok(Row {
-            name,
-            order,
-            kernel,
-        })
     }
 
     // The byte order that the row names.
-    pub fn endian(&self) -> Result<Endian, Malformed> {
-        match self.order {
-            b"little" => Ok(Endian::Little),
-            b"big" => Ok(Endian::Big),
+    pub fn endian(&self) -> Result<Endian, Malformed>
+        ensures { λ r. ⌜ made r (λ e. now (now (self .entry) .order) ≡ order-word e) ⌝ }
+    {
+        match std::str::from_utf8(self.order) {
+            Ok("little") => Ok(Endian::Little),
+            Ok("big") => Ok(Endian::Big),
             _ => Err(Malformed::UnknownOrder),
         }
     }
@@ -231,7 +237,7 @@ fn unprintable(bytes: &[u8]) -> Option<usize>
 
 // A name as text: of 1 to 64 bytes, all of them printable ASCII.
 fn checked_name(bytes: &[u8]) -> Result<&str, Malformed>
-    ensures { λ r. ⌜ made r (λ s. Named (now (bytes .entry)) (now s)) ⌝ }
+    ensures { λ r. ⌜ made r (λ s. (now s ≡ now (bytes .entry)) × Named (now s)) ⌝ }
 {
     let length = bytes.len();
     if length == 0 {
