@@ -2,6 +2,7 @@
 // line, and then reads a swap sheet from standard input: which gateway gets which file, and which share one.
 mod fault;
 mod files;
+mod given;
 mod meter;
 mod questions;
 mod recorder;

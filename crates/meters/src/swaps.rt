@@ -4,6 +4,7 @@ use crate::fault::FaultFromAlloc;
 use crate::fault::FaultFromIo;
 use crate::fault::FaultFromRefused;
 use crate::files::Files;
+use crate::given::Given;
 use crate::sheet::LinesIterator as _;
 use crate::sheet::Malformed;
 use crate::sheet::MalformedDisplay;
@@ -28,8 +29,7 @@ pub struct Swaps {
     heap: Global,
     // the line of each name
     lines: BTreeMap<String, usize>,
-    // the files in order of first appearance, all unlike
-    files: Vec<Vec<u8>>,
+    given: Given,
     gateways: Vec<Gateway>,
     malformed: usize,
 }
@@ -39,7 +39,7 @@ impl Swaps {
         Swaps {
             heap,
             lines: BTreeMap::new(heap),
-            files: Vec::new(heap),
+            given: Given::new(heap),
             gateways: Vec::new(heap),
             malformed: 0,
         }
@@ -54,19 +54,6 @@ impl Swaps {
         let key = String::from_str(self.heap, name)?;
         self.lines.insert(key, line)?;
         Ok(None)
-    }
-
-    // The number of the file with these bytes, from 1, which is new where no gateway has had it.
-    fn number_file(&mut self, bytes: &[u8]) -> Result<usize, Fault> {
-        let mut number = 0usize;
-        for file in self.files.iter() {
-            number = number.saturating_add(1);
-            if file.as_slice() == bytes {
-                return Ok(number);
-            }
-        }
-        self.files.push(Vec::from_slice(self.heap, bytes)?)?;
-        Ok(self.files.len())
     }
 
     fn refuse(&mut self, rt: &LibcRuntime, line: usize, fault: Malformed) -> Result<(), Fault> {
@@ -93,7 +80,7 @@ impl Swaps {
             Ok(endian) => endian,
             Err(fault) => return self.refuse(rt, line, fault),
         };
-        let file = self.number_file(files.of(endian))?;
+        let file = self.given.number(self.heap, files.of(endian))?;
         let name = String::from_str(self.heap, row.name)?;
         print_row(rt, line, &row, file)?;
         self.gateways.push(Gateway { name, file })?;
@@ -102,7 +89,7 @@ impl Swaps {
 
     fn print_files(&self, rt: &LibcRuntime) -> io::Result<()> {
         let mut number = 0usize;
-        for bytes in self.files.iter() {
+        for bytes in self.given.files().iter() {
             number = number.saturating_add(1);
             println!(rt, "file {number}, {} bytes, billed alike:", bytes.len())?;
             for gateway in self.gateways.iter() {
@@ -116,7 +103,7 @@ impl Swaps {
 
     fn print_summary(&self, rt: &LibcRuntime) -> io::Result<()> {
         let gateways = self.gateways.len();
-        let files = self.files.len();
+        let files = self.given.files().len();
         let malformed = self.malformed;
         println!(
             rt,
