@@ -1,14 +1,73 @@
-// Shows how the magic number of a BTF file stands in both byte orders.
-use order::BigEndian;
-use order::BigEndianOrder;
-use order::ByteOrder;
-use order::LittleEndian;
-use order::LittleEndianOrder;
-use std::io;
+// Takes a meter's BTF table from its first name to the last byte of its file, prints what was done line by
+// line, and then reads a swap sheet from standard input: which gateway gets which file, and which share one.
+mod fault;
+mod files;
+mod meter;
+mod questions;
+mod recorder;
+mod refusal;
+mod sheet;
+mod shown;
+mod swaps;
 
-fn main(rt: LibcRuntime) -> io::Result<()> {
-    let little = LittleEndian.half(0xeb9f);
-    let big = BigEndian.half(0xeb9f);
-    println!(rt, "little {:02x}{:02x}", little[0], little[1])?;
-    println!(rt, "big {:02x}{:02x}", big[0], big[1])
+use crate::fault::Fault;
+use crate::fault::FaultDebug;
+use crate::fault::FaultError;
+use crate::fault::FaultFromAlloc;
+use crate::fault::FaultFromIo;
+use crate::fault::FaultFromRefused;
+use crate::files::Files;
+use crate::recorder::Recorder;
+use elements::Element;
+use std::alloc::Global;
+use std::error::AnyError;
+use table::Btf;
+use table::TypeRow;
+
+const MOST_DECLARATIONS: usize = 64;
+
+const MOST_ELEMENTS: usize = 64;
+
+const MOST_NAME_BYTES: usize = 1024;
+
+// An area of declarations that hold nothing yet.
+fn empty_rows(heap: Global) -> Result<Vec<TypeRow>, Fault> {
+    let mut rows = Vec::new(heap);
+    for _ in 0..MOST_DECLARATIONS {
+        rows.push(TypeRow::empty())?;
+    }
+    Ok(rows)
+}
+
+// An area of elements that hold nothing yet.
+fn empty_elements(heap: Global) -> Result<Vec<Element>, Fault> {
+    let mut elements = Vec::new(heap);
+    for _ in 0..MOST_ELEMENTS {
+        elements.push(Element::empty())?;
+    }
+    Ok(elements)
+}
+
+fn run(rt: &LibcRuntime) -> Result<(), Fault> {
+    let heap = rt.alloc();
+    let mut rows = empty_rows(heap)?;
+    let mut elements = empty_elements(heap)?;
+    let mut names = vec![in heap; 0u8; MOST_NAME_BYTES]?;
+    let mut table = Btf::new(
+        rows.as_mut_slice(),
+        elements.as_mut_slice(),
+        names.as_mut_slice(),
+    );
+    let mut recorder = Recorder { rt, names };
+    let meter = meter::declare_all(&mut recorder, &mut table)?;
+    let names = recorder.names.as_slice();
+    questions::ask_all(rt, &table, names, &meter)?;
+    let files = Files::encode(heap, &table, names)?;
+    files.print(rt)?;
+    swaps::serve(rt, &files)
+}
+
+fn main(rt: LibcRuntime) -> Result<(), AnyError> {
+    rt.report(run(&rt))?;
+    Ok(())
 }
