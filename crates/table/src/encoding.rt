@@ -175,7 +175,7 @@ fn put_header<O: ByteOrder>(order: &O, out: &mut [u8], types: u32, strings: u32)
 
 impl Store<'_> {
     // Writes the file into the buffer, and answers how many bytes it has.
-    pub fn to_bytes<O: ByteOrder>(
+    pub(crate) fn to_bytes<O: ByteOrder>(
         &self,
         strings: &[u8],
         order: &O,
