@@ -64,6 +64,10 @@ module _ (row : TypeRow) (es : List Element) (none : kind-number (kind-of (row .
   pub void-length : row-length row ≡ 0
   void-length = cond-true (eqb (kind-number (kind-of (row .head .info))) 0) 0 _ (eq-eqb _ 0 none)
 
+-- a kind without elements has none
+pub no-tail : (row : TypeRow) (es : List Element) → element-words (kind-of (row .head .info)) ≡ 0 → [] ≡ take (elements-of (row .head .info)) (drop (row .first) es)
+no-tail row es none = sym (ap (λ w. take (cond (ltb 0 w) (low-of (row .head .info)) 0) (drop (row .first) es)) none)
+
 -- any other declaration has the words of its head and of its elements
 module _ (row : TypeRow) (es : List Element) (extra width : ℕ) (tail : List Element)
     (some : kind-number (kind-of (row .head .info)) ≡ 0 → ⊥)

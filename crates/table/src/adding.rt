@@ -16,7 +16,7 @@ const MOST_ELEMENTS: usize = 65535;
 
 const LAST_LINKAGE: u32 = 3;
 
-pub fn declaration_fault<E: ElementType>(
+pub(crate) fn declaration_fault<E: ElementType>(
     declaration: &Declaration,
     count: usize,
 ) -> Option<BtfError>
@@ -43,7 +43,7 @@ pub fn declaration_fault<E: ElementType>(
 }
 
 // Puts the elements of a tail into the area, from `at` on: one text for every type of elements.
-pub fn put_tail<E: ElementType>(area: &mut [Element], at: usize, tail: &[E])
+pub(crate) fn put_tail<E: ElementType>(area: &mut [Element], at: usize, tail: &[E])
     requires { ⌜ at + length (now tail) ≤ length (now area) ⌝ }
     ensures { λ _. ⌜ now (area .exit) ≡ over at (map packed (map meaning (now (tail .entry)))) (now (area .entry)) ⌝ }
 {

@@ -127,14 +127,15 @@ fn put_row<O: ByteOrder>(
     if kind.number() == 0 {
         return at;
     }
-    let behind = put_head(order, out, at, &row.head, kind.extra_words());
-    put_elements(
-        order,
-        out,
-        behind,
-        row_tail(row, elements),
-        kind.element_words(),
-    )
+    let extra = kind.extra_words();
+    let width = kind.element_words();
+    if width == 0 {
+        return put_head(order, out, at, &row.head, extra);
+    }
+    // the elements are looked up before anything is written, so that the row is read once
+    let tail = row_tail(row, elements);
+    let behind = put_head(order, out, at, &row.head, extra);
+    put_elements(order, out, behind, tail, width)
 }
 
 // Writes declarations one behind the other, in rising id order, and answers where they end.
@@ -174,7 +175,7 @@ fn put_header<O: ByteOrder>(order: &O, out: &mut [u8], types: u32, strings: u32)
 
 impl Store<'_> {
     // Writes the file into the buffer, and answers how many bytes it has.
-    pub fn to_bytes<O: ByteOrder>(
+    pub(crate) fn to_bytes<O: ByteOrder>(
         &self,
         strings: &[u8],
         order: &O,

@@ -24,7 +24,7 @@ use rows::name_length;
 const MOST_STRINGS: usize = 16_777_215;
 
 impl<'a> Store<'a> {
-    pub fn new(
+    pub(crate) fn new(
         types: &'a mut [TypeRow],
         elements: &'a mut [Element],
         strings: &mut [u8],
@@ -56,7 +56,7 @@ impl<'a> Store<'a> {
         }
     }
 
-    pub fn add_string(&mut self, strings: &mut [u8], name: &[u8]) -> Result<u32, BtfError>
+    pub(crate) fn add_string(&mut self, strings: &mut [u8], name: &[u8]) -> Result<u32, BtfError>
         requires { ⌜ Kept (now self) ⌝ }
         ensures kept { λ _. ⌜ Kept (now (self .exit)) ⌝ }
         ensures outcome { λ r. ⌜ outcome r (now (self .exit)) (now (strings .exit)) ≡ add-string (table-of (now (self .entry)) (now (strings .entry))) (now (name .entry)) ⌝ }
@@ -81,7 +81,7 @@ impl<'a> Store<'a> {
         Ok(at as u32)
     }
 
-    pub fn add_type<E: ElementType>(
+    pub(crate) fn add_type<E: ElementType>(
         &mut self,
         strings: &[u8],
         declaration: &Declaration,

@@ -23,19 +23,19 @@ const MOST_DECLARATIONS: usize = 1_048_575;
 const MOST_ELEMENTS: usize = 2_097_152;
 
 #[derive(Drop)]
-pub struct Store<'a> {
-    pub types: &'a mut [TypeRow],
-    pub elements: &'a mut [Element],
-    pub type_count: usize,
-    pub element_count: usize,
+pub(crate) struct Store<'a> {
+    pub(crate) types: &'a mut [TypeRow],
+    pub(crate) elements: &'a mut [Element],
+    pub(crate) type_count: usize,
+    pub(crate) element_count: usize,
     // the length of the type part of a file
-    pub type_bytes: usize,
-    pub string_len: usize,
+    pub(crate) type_bytes: usize,
+    pub(crate) string_len: usize,
 }
 
 impl Store<'_> {
     // Whether the table holds something and the string area has all its strings.
-    pub fn holds(&self, strings: &[u8]) -> bool
+    pub(crate) fn holds(&self, strings: &[u8]) -> bool
         requires { ⌜ Kept (now self) ⌝ }
         ensures { λ r. ⌜ r ≡ holds (table-of (now (self .entry)) (now (strings .entry))) ⌝ }
     {
@@ -43,7 +43,7 @@ impl Store<'_> {
     }
 
     // The rows in use.
-    pub fn rows(&self) -> &[TypeRow]
+    pub(crate) fn rows(&self) -> &[TypeRow]
         requires { ⌜ Kept (now self) ⌝ }
         ensures { λ r. ⌜ now r ≡ used-rows (now (self .entry)) ⌝ }
     {
@@ -51,7 +51,7 @@ impl Store<'_> {
     }
 
     // Whether there is room for one declaration and `count` elements more.
-    pub fn room_fault(&self, count: usize) -> Option<BtfError>
+    pub(crate) fn room_fault(&self, count: usize) -> Option<BtfError>
         requires { ⌜ Kept (now self) ⌝ }
         ensures { λ r. ⌜ ((strings : List ℕ) → fault-said r ≡ room-fault (table-of (now (self .entry)) strings) count) ⌝ }
     {
@@ -69,7 +69,7 @@ impl Store<'_> {
     }
 
     // Puts a declaration with its elements behind the others, and answers its id.
-    pub fn put_type<E: ElementType>(&mut self, head: BtfType, tail: &[E]) -> u32
+    pub(crate) fn put_type<E: ElementType>(&mut self, head: BtfType, tail: &[E]) -> u32
         requires kept { ⌜ Kept (now self) ⌝ }
         requires row { ⌜ now self .«type_count» < length (now self .types .now) ⌝ ∗ ⌜ now self .«type_count» < 1048575 ⌝ }
         requires room { ⌜ now self .«element_count» + length (now tail) ≤ length (now self .elements .now) ⌝ ∗ ⌜ now self .«element_count» + length (now tail) ≤ 2097152 ⌝ }

@@ -6,7 +6,7 @@ ghost use lib.ListN.{length};
 ghost use Rattle.meaning.specs.Adding.{over};
 
 // Puts a name and its zero byte into the area, from `at` on.
-pub fn put_name(area: &mut [u8], at: usize, name: &[u8])
+pub(crate) fn put_name(area: &mut [u8], at: usize, name: &[u8])
     requires { ⌜ at + length (now name) < length (now area) ⌝ }
     ensures { λ _. ⌜ now (area .exit) ≡ over at (now (name .entry) ++ 0 ∷ []) (now (area .entry)) ⌝ }
 {
