@@ -16,7 +16,6 @@ use declare::Var;
 use elements::BtfEnum;
 use elements::BtfMember;
 use elements::BtfParam;
-use elements::Element;
 use elements::EnumElement;
 use elements::MemberElement;
 use elements::ParamElement;
@@ -25,7 +24,6 @@ use layout::Declaration;
 use layout::Linkage;
 use std::alloc::Global;
 use table::Btf;
-use table::TypeRow;
 
 // The fewest declarations, one whole chain.
 pub const SMALLEST: usize = 160;
@@ -65,22 +63,6 @@ pub fn labels(heap: Global, size: usize) -> Result<Vec<Label>, Fault> {
         all.push(label(number))?;
     }
     Ok(all)
-}
-
-pub fn empty_rows(heap: Global, count: usize) -> Result<Vec<TypeRow>, Fault> {
-    let mut rows = Vec::new(heap);
-    for _ in 0..count {
-        rows.push(TypeRow::empty())?;
-    }
-    Ok(rows)
-}
-
-pub fn empty_elements(heap: Global, count: usize) -> Result<Vec<Element>, Fault> {
-    let mut elements = Vec::new(heap);
-    for _ in 0..count {
-        elements.push(Element::empty())?;
-    }
-    Ok(elements)
 }
 
 // Adds a declaration that has no elements.

@@ -4,8 +4,6 @@ use crate::fault::FaultFromAlloc;
 use crate::fault::FaultFromTable;
 use crate::filling::Label;
 use crate::filling::SMALLEST;
-use crate::filling::empty_elements;
-use crate::filling::empty_rows;
 use crate::filling::fill;
 use crate::filling::labels;
 use crate::timing::Plan;
@@ -14,6 +12,7 @@ use crate::timing::time_copying;
 use crate::timing::time_encoding;
 use crate::timing::time_searching;
 use crate::timing::time_walking;
+use elements::Element;
 use layout::BtfError;
 use layout::BtfKind;
 use order::LittleEndian;
@@ -21,6 +20,7 @@ use order::LittleEndianOrder;
 use std::fmt;
 use std::num::nearest_u64_to_f64;
 use table::Btf;
+use table::TypeRow;
 
 // A walk takes the same time at every size, but for what the caches hold.
 const WALKS: Plan = Plan {
@@ -131,8 +131,8 @@ pub fn measure(rt: &LibcRuntime, size: usize) -> Result<Measured, Fault> {
     let Some(last) = all.last() else {
         return Err(Fault::Word);
     };
-    let mut rows = empty_rows(heap, size.saturating_add(1))?;
-    let mut elements = empty_elements(heap, size)?;
+    let mut rows = vec![in heap; TypeRow::empty(); size.saturating_add(1)]?;
+    let mut elements = vec![in heap; Element::empty(); size]?;
     // the empty name, the names, and a byte that is no name's
     let room = size.saturating_mul(13).saturating_add(2);
     let mut names = vec![in heap; 0u8; room]?;

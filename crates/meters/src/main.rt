@@ -16,11 +16,9 @@ use crate::fault::FaultDebug;
 use crate::fault::FaultError;
 use crate::fault::FaultFromAlloc;
 use crate::fault::FaultFromIo;
-use crate::fault::FaultFromRefused;
 use crate::files::Files;
 use crate::recorder::Recorder;
 use elements::Element;
-use std::alloc::Global;
 use std::error::AnyError;
 use table::Btf;
 use table::TypeRow;
@@ -31,28 +29,10 @@ const MOST_ELEMENTS: usize = 64;
 
 const MOST_NAME_BYTES: usize = 1024;
 
-// An area of declarations that hold nothing yet.
-fn empty_rows(heap: Global) -> Result<Vec<TypeRow>, Fault> {
-    let mut rows = Vec::new(heap);
-    for _ in 0..MOST_DECLARATIONS {
-        rows.push(TypeRow::empty())?;
-    }
-    Ok(rows)
-}
-
-// An area of elements that hold nothing yet.
-fn empty_elements(heap: Global) -> Result<Vec<Element>, Fault> {
-    let mut elements = Vec::new(heap);
-    for _ in 0..MOST_ELEMENTS {
-        elements.push(Element::empty())?;
-    }
-    Ok(elements)
-}
-
 fn run(rt: &LibcRuntime) -> Result<(), Fault> {
     let heap = rt.alloc();
-    let mut rows = empty_rows(heap)?;
-    let mut elements = empty_elements(heap)?;
+    let mut rows = vec![in heap; TypeRow::empty(); MOST_DECLARATIONS]?;
+    let mut elements = vec![in heap; Element::empty(); MOST_ELEMENTS]?;
     let mut names = vec![in heap; 0u8; MOST_NAME_BYTES]?;
     let mut table = Btf::new(
         rows.as_mut_slice(),
