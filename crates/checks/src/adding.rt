@@ -11,26 +11,45 @@ use elements::BtfParam;
 use elements::DataSecEntry;
 use elements::Element;
 use elements::ElementType;
+use elements::EntryElement;
+use elements::Enum64Element;
+use elements::EnumElement;
+use elements::MemberElement;
+use elements::ParamElement;
 use layout::BtfKind::*;
 use std::test::*;
 use table::Btf;
 use table::TypeRow;
-use elements::MemberElement;
 
 // Where two faults are present, the kind comes before the flag, that before the linkage, all before the count.
 const FAULTS: &[(Call, Said)] = &[
     (AddRaw(0, false, 0), No(2, None, None, Some(0))),
     (AddRaw(20, false, 0), No(2, None, None, Some(20))),
-    (AddRaw(u32::MAX, false, 0), No(2, None, None, Some(4294967295))),
+    (
+        AddRaw(u32::MAX, false, 0),
+        No(2, None, None, Some(4294967295)),
+    ),
     (AddRaw(20, true, 4), No(2, None, None, Some(20))),
     (AddMany(Entries(1, true, 1)), No(2, None, None, Some(1))),
-    (AddMany(Entries(1, false, 65536)), No(2, None, None, Some(1))),
+    (
+        AddMany(Entries(1, false, 65536)),
+        No(2, None, None, Some(1)),
+    ),
     (AddRaw(1, true, 0), No(3, None, None, Some(1))),
     (AddRaw(12, true, 4), No(3, None, None, Some(1))),
     (AddRaw(12, false, 4), No(3, None, None, Some(4))),
-    (AddRaw(14, false, u32::MAX), No(3, None, None, Some(4294967295))),
-    (AddMany(Entries(15, true, 65536)), No(3, None, None, Some(1))),
-    (AddMany(Entries(15, false, 65536)), No(4, None, None, Some(65536))),
+    (
+        AddRaw(14, false, u32::MAX),
+        No(3, None, None, Some(4294967295)),
+    ),
+    (
+        AddMany(Entries(15, true, 65536)),
+        No(3, None, None, Some(1)),
+    ),
+    (
+        AddMany(Entries(15, false, 65536)),
+        No(4, None, None, Some(65536)),
+    ),
     (AddMany(Structs(1, 65536)), No(4, None, None, Some(65536))),
     (AddMany(Structs(1, 65535)), Number(1)),
     (Ask(TypeById(1)), Head([0, 0x0400ffff, 9, 0, 0, 0])),
@@ -58,7 +77,10 @@ const ELEMENTS: &[(Call, Said)] = &[
     (AddMany(Entries(15, false, 1)), Number(4)),
     (Ask(ElementAt(1, 1)), Member([1, 2, 3])),
     (Ask(ElementAt(1, 2)), No(18, Some(1), Some(2), None)),
-    (Ask(ElementAt(1, u32::MAX)), No(18, Some(1), Some(u32::MAX), None)),
+    (
+        Ask(ElementAt(1, u32::MAX)),
+        No(18, Some(1), Some(u32::MAX), None),
+    ),
     (Ask(ElementAt(2, 0)), No(18, Some(2), Some(0), None)),
     (Ask(ElementAt(3, 0)), No(18, Some(3), Some(0), None)),
     (Ask(ElementAt(0, 0)), No(18, Some(0), Some(0), None)),
@@ -116,7 +138,8 @@ fn heads(table: &mut Btf, strings: &[u8]) -> Result<(), Fail> {
     Ok(())
 }
 
-const ALL: &[u32] = &[1, 2, 3, 4, 5, 6, 7, 8, 9, 10, 11, 12, 13, 14, 15, 16, 17, 18, 19];
+// The kinds without a linkage, at which one is passed over.
+const UNLINKED: &[u32] = &[1, 2, 3, 4, 5, 6, 7, 8, 9, 10, 11, 13, 15, 16, 17, 18, 19];
 
 // At the kinds that are not in the list the refusal has a number and a value, where none is given the kind.
 fn by_kind<E: ElementType>(
@@ -136,4 +159,50 @@ fn by_kind<E: ElementType>(
         }
     }
     Ok(())
+}
+
+// Elements of each type, a flag and a linkage that is none, tried on every kind.
+#[test]
+fn kinds_take_what_they_have() -> Result<(), Fail> {
+    let mut types = [TypeRow::empty(); 40];
+    let mut elements = [Element::empty(); 8];
+    let mut strings = [0];
+    let mut table = Btf::new(&mut types, &mut elements, &mut strings);
+    let value = BtfEnum {
+        name_offset: 0,
+        value: 1,
+    };
+    by_kind(&mut table, (false, 0), &[value], &[6], (2, None))?;
+    let param = BtfParam {
+        name_offset: 0,
+        btf_type: 1,
+    };
+    by_kind(&mut table, (false, 0), &[param], &[13], (2, None))?;
+    by_kind(
+        &mut table,
+        (false, 0),
+        &[BtfEnum64::new(0, 1)],
+        &[19],
+        (2, None),
+    )?;
+    let member = BtfMember {
+        name_offset: 0,
+        btf_type: 1,
+        offset: 0,
+    };
+    by_kind(&mut table, (false, 0), &[member], &[4, 5], (2, None))?;
+    let entry = DataSecEntry {
+        btf_type: 1,
+        offset: 0,
+        size: 4,
+    };
+    by_kind(&mut table, (false, 0), &[entry], &[15], (2, None))?;
+    by_kind(
+        &mut table,
+        (true, 0),
+        NO_MEMBERS,
+        &[4, 5, 6, 7, 19],
+        (3, Some(1)),
+    )?;
+    by_kind(&mut table, (false, 4), NO_MEMBERS, UNLINKED, (3, Some(4)))
 }

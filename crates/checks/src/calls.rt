@@ -202,24 +202,39 @@ fn add_structs(table: &mut Btf, strings: &[u8], times: u32, members: &[BtfMember
     said
 }
 
-fn add_many(heap: Global, table: &mut Btf, strings: &mut [u8], many: &Many) -> Result<Said, AllocError> {
-    Ok(match *many {
-        Many::Letters(count) => {
-            let name = vec![in heap; b'a'; count]?;
-            number(table.add_string(strings, &name))
-        }
-        Many::Consts(times) => add_consts(table, strings, times),
-        Many::Structs(times, count) => {
-            let member = BtfMember { name_offset: 1, btf_type: 2, offset: 3 };
-            let members = vec![in heap; member; count]?;
-            add_structs(table, strings, times, &members)
-        }
-        Many::Entries(kind, flag, count) => {
-            let entry = DataSecEntry { btf_type: 4, offset: 5, size: 6 };
-            let entries = vec![in heap; entry; count]?;
-            number(table.add_type(strings, &raw(kind, flag, 0), &entries))
-        }
-    })
+fn add_many(
+    heap: Global,
+    table: &mut Btf,
+    strings: &mut [u8],
+    many: &Many,
+) -> Result<Said, AllocError> {
+    Ok(
+        match *many {
+            Many::Letters(count) => {
+                let name = vec![in heap; b'a'; count]?;
+                number(table.add_string(strings, &name))
+            }
+            Many::Consts(times) => add_consts(table, strings, times),
+            Many::Structs(times, count) => {
+                let member = BtfMember {
+                    name_offset: 1,
+                    btf_type: 2,
+                    offset: 3,
+                };
+                let members = vec![in heap; member; count]?;
+                add_structs(table, strings, times, &members)
+            }
+            Many::Entries(kind, flag, count) => {
+                let entry = DataSecEntry {
+                    btf_type: 4,
+                    offset: 5,
+                    size: 6,
+                };
+                let entries = vec![in heap; entry; count]?;
+                number(table.add_type(strings, &raw(kind, flag, 0), &entries))
+            }
+        },
+    )
 }
 
 fn encode(heap: Global, table: &Btf, strings: &[u8], room: usize) -> Result<Said, AllocError> {
@@ -230,7 +245,13 @@ fn encode(heap: Global, table: &Btf, strings: &[u8], room: usize) -> Result<Said
 fn act(heap: Global, table: &mut Btf, strings: &mut [u8], call: &Call) -> Result<Said, AllocError> {
     match *call {
         Call::AddString(name) => Ok(number(table.add_string(strings, name))),
-        Call::Add(kind, name_offset, third) => Ok(add(table, strings, kind.number(), name_offset, third)),
+        Call::Add(kind, name_offset, third) => Ok(add(
+            table,
+            strings,
+            kind.number(),
+            name_offset,
+            third,
+        )),
         Call::AddArray(element, len) => Ok(add_array(table, strings, element, len)),
         Call::AddRaw(kind, flag, linkage) => {
             Ok(number(table.add_type(strings, &raw(kind, flag, linkage), NO_MEMBERS)))
@@ -299,13 +320,25 @@ fn look(heap: Global, table: &Btf, strings: &[u8]) -> Result<Seen, AllocError> {
 }
 
 // Makes a call that is to be refused, and checks that it leaves everything as it was.
-fn refuse(heap: Global, table: &mut Btf, strings: &mut [u8], call: &Call, want: Said) -> Result<(), Fail> {
+fn refuse(
+    heap: Global,
+    table: &mut Btf,
+    strings: &mut [u8],
+    call: &Call,
+    want: Said,
+) -> Result<(), Fail> {
     let before = look(heap, table, strings)?;
     check_eq(act(heap, table, strings, call)?, want)?;
     check_eq(look(heap, table, strings)?, before)
 }
 
-fn step(heap: Global, table: &mut Btf, strings: &mut [u8], call: &Call, want: Said) -> Result<(), Fail> {
+fn step(
+    heap: Global,
+    table: &mut Btf,
+    strings: &mut [u8],
+    call: &Call,
+    want: Said,
+) -> Result<(), Fail> {
     match want {
         Said::No(..) => refuse(heap, table, strings, call, want),
         _ => check_eq(act(heap, table, strings, call)?, want),
@@ -313,7 +346,12 @@ fn step(heap: Global, table: &mut Btf, strings: &mut [u8], call: &Call, want: Sa
 }
 
 // Makes calls one after the other, and checks what each says.
-pub fn play_on(heap: Global, table: &mut Btf, strings: &mut [u8], steps: &[(Call, Said)]) -> Result<(), Fail> {
+pub fn play_on(
+    heap: Global,
+    table: &mut Btf,
+    strings: &mut [u8],
+    steps: &[(Call, Said)],
+) -> Result<(), Fail> {
     for (i, (call, want)) in steps.iter().enumerate() {
         step(heap, table, strings, call, *want).note(format_args!("step {i}"))?;
     }

@@ -11,7 +11,10 @@ use std::test::*;
 const DECLARATIONS: &[(Call, Said)] = &[
     (AddMany(Consts(1048574)), Number(1048574)),
     (Add(Const, 0, 0), No(16, None, None, Some(0))),
-    (Ask(Resolve(1048574)), No(7, Some(1048574), None, Some(1048575))),
+    (
+        Ask(Resolve(1048574)),
+        No(7, Some(1048574), None, Some(1048575)),
+    ),
     (Ask(TypeById(1048575)), No(7, None, None, Some(1048575))),
     (Encode(0), No(17, None, None, Some(12582913))),
     (AddString(b"int"), Number(1)),
@@ -25,7 +28,10 @@ const ELEMENTS: &[(Call, Said)] = &[
     (AddMany(Structs(1, 1)), No(16, None, None, Some(1))),
     (AddMany(Structs(1, 0)), Number(34)),
     (Ask(ElementAt(32, 65534)), Member([1, 2, 3])),
-    (Ask(ElementAt(32, 65535)), No(18, Some(32), Some(65535), None)),
+    (
+        Ask(ElementAt(32, 65535)),
+        No(18, Some(32), Some(65535), None),
+    ),
     (Ask(ElementAt(33, 31)), Member([1, 2, 3])),
     (Encode(0), No(17, None, None, Some(25166257))),
 ];

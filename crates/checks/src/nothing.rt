@@ -54,10 +54,7 @@ fn a_table_needs_two_areas(rt: LibcRuntime) -> Result<(), Fail> {
     play(rt.alloc(), Rooms(1, 0, 1), 0xee, LEAST)
 }
 
-const BEGUN: &[(Call, Said)] = &[
-    (AddString(b"int"), Number(1)),
-    (Add(Int, 1, 4), Number(1)),
-];
+const BEGUN: &[(Call, Said)] = &[(AddString(b"int"), Number(1)), (Add(Int, 1, 4), Number(1))];
 
 const JUST_LONG_ENOUGH: &[(Call, Said)] = &[
     (Ask(TypeName(1)), Text(*b"int.....")),
@@ -71,7 +68,13 @@ const LONGER: &[(Call, Said)] = &[
 ];
 
 // The same with the first bytes of the string area only.
-fn play_short(heap: Global, table: &mut Btf, strings: &mut [u8], room: usize, steps: &[(Call, Said)]) -> Result<(), Fail> {
+fn play_short(
+    heap: Global,
+    table: &mut Btf,
+    strings: &mut [u8],
+    room: usize,
+    steps: &[(Call, Said)],
+) -> Result<(), Fail> {
     let room = strings.len().min(room);
     play_on(heap, table, &mut strings[0..room], steps)
 }
