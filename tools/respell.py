@@ -110,7 +110,7 @@ def main(root):
     changed = 0
     for p, text in texts.items():
         new = turned(text, turns[p]) if p.endswith(".antt") else re.sub(
-            r"ghost use [^;]*;|(?:requires|ensures)\*?(?: \w+)? \{.*\}|ghost [^{;]*\{[^}]*\}[^;\n]*;|//[^\n]*", lambda m: turned(m.group(0), turns[p] | fields), text)
+            r"ghost use [^;]*;|(?:requires|ensures)\*?(?: \w+)? \{.*\}|ghost \w+ *[:=] *\{[^\n]*\}|//[^\n]*", lambda m: turned(m.group(0), turns[p] | fields), text)
         if new != text:
             changed += 1
             with open(p, "w", encoding="utf-8") as f:

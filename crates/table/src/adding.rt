@@ -15,7 +15,7 @@ pub(crate) fn declaration_fault<E: ElementType>(
     declaration: &Declaration,
     count: usize,
 ) -> Option<BtfError>
-    ensures { fault_said result ≡ declaration_fault declaration.now serving count }
+    ensures { fault_said result ≡ declaration_fault declaration.now E.serving count }
 {
     let kind = BtfKind::from_number(declaration.kind);
     if kind.number() == 0 || (0 < count && !E::serves(kind)) {
@@ -40,7 +40,7 @@ pub(crate) fn declaration_fault<E: ElementType>(
 // Puts the elements of a tail into the area, from `at` on: one text for every type of elements.
 pub(crate) fn put_tail<E: ElementType>(area: &mut [Element], at: usize, tail: &[E])
     requires { at + length tail.now ≤ length area.old }
-    ensures { area.new ≡ over at (map packed (map meaning tail.now)) area.old }
+    ensures { area.new ≡ over at (map packed (map E.meaning tail.now)) area.old }
 {
     for (i, element) in tail.iter().enumerate() {
         area[at + i] = element.pack();

@@ -16,6 +16,6 @@ pub struct Btf<'a> {
     ghost fewelements: { store.element_count ≤ 2097152 },
     ghost fewstrings: { store.string_len ≤ 16777215 },
     ghost placed: { (k : ℕ) (d : TypeRow) → k < store.type_count → Placed store.element_count (slice_index_or store.types.now k d) },
-    ghost counted: { store.type_bytes ≡ sum_by row-length (used-rows store) },
+    ghost counted: { store.type_bytes ≡ sum_by row_length (used_rows store) },
     ghost bounded: { store.type_bytes ≤ 24 * store.type_count + 12 * store.element_count },
 }

@@ -81,9 +81,9 @@ impl<'a> Store<'a> {
     ) -> Result<u32, BtfError>
         requires { Kept self.old }
         ensures kept { Kept self.new }
-        ensures outcome { outcome result self.new strings.now ≡ add_type (table_of self.old strings.now) declaration.now serving (map meaning elements.now) }
+        ensures outcome { outcome result self.new strings.now ≡ add_type (table_of self.old strings.now) declaration.now E.serving (map E.meaning elements.now) }
         ensures types { self.new.types.now ≡ (if is_ok result then with_row self.old declaration.now (length elements.now) else self.old.types.now) }
-        ensures elements { self.new.elements.now ≡ (if is_ok result then with_elements self.old (map meaning elements.now) else self.old.elements.now) }
+        ensures elements { self.new.elements.now ≡ (if is_ok result then with_elements self.old (map E.meaning elements.now) else self.old.elements.now) }
     {
         if !self.holds(strings) {
             return Err(BtfError::NoTable);

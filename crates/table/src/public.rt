@@ -47,9 +47,9 @@ impl<'a> Btf<'a> {
         declaration: &Declaration,
         elements: &[E],
     ) -> Result<u32, BtfError>
-        ensures outcome { outcome result self.new.store strings.now ≡ add_type (table_of self.old.store strings.now) declaration.now serving (map meaning elements.now) }
+        ensures outcome { outcome result self.new.store strings.now ≡ add_type (table_of self.old.store strings.now) declaration.now E.serving (map E.meaning elements.now) }
         ensures types { self.new.store.types.now ≡ (if is_ok result then with_row self.old.store declaration.now (length elements.now) else self.old.store.types.now) }
-        ensures elements { self.new.store.elements.now ≡ (if is_ok result then with_elements self.old.store (map meaning elements.now) else self.old.store.elements.now) }
+        ensures elements { self.new.store.elements.now ≡ (if is_ok result then with_elements self.old.store (map E.meaning elements.now) else self.old.store.elements.now) }
     {
         self.store.add_type(strings, declaration, elements)
     }

@@ -72,7 +72,7 @@ impl Store<'_> {
         ensures kept { Kept self.new }
         ensures id { result ≡ self.old.type_count }
         ensures types { self.new.types.now ≡ slice_set self.old.types.now self.old.type_count (row_of head self.old.element_count) }
-        ensures elements { self.new.elements.now ≡ with_elements self.old (map meaning tail.now) }
+        ensures elements { self.new.elements.now ≡ with_elements self.old (map E.meaning tail.now) }
         ensures counts { (self.new.type_count ≡ self.old.type_count + 1) × ((self.new.element_count ≡ self.old.element_count + length tail.now) × (self.new.string_len ≡ self.old.string_len)) }
     {
         let id = self.type_count;

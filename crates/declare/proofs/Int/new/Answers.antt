@@ -5,4 +5,4 @@ use Rattle.declare.proofs.Data.{data_built}
 use Rattle.declare.proofs.Int.new.Goals as goal
 
 pub returns : goal.returns
-returns c = c.plain.ensures ∙ ap (λ d. declared c.args.name-offset Int false 0 c.args.size (d ∷ 0 ∷ 0 ∷ [])) (data_built c.args.encoding c.args.offset c.args.size)
+returns c = c.plain.ensures ∙ ap (λ d. declared c.args.name_offset Int false 0 c.args.size (d ∷ 0 ∷ 0 ∷ [])) (data_built c.args.encoding c.args.offset c.args.size)

@@ -17,7 +17,7 @@ returns-in-Some c =
 pub loop-at-preserved : goal.loop-at-preserved
 loop-at-preserved c =
     elements_go c.args.strings.now c.args.count c.args.id (element_refers c.args.kind) (λ e. take (element_words c.args.kind) e.words) c.args.tail.now c.loop-at.at blank
-    _ _ _ c.loop-at.invariant c.loop-at-test.true c.element-fault.ensures (ap (take (element_words c.args.kind)) c.words-words.ensures) (ap fault_said c.in-default.is)
+    _ _ _ c.loop-at.invariant c.loop-at-test.true c.element_fault.ensures (ap (take (element_words c.args.kind)) c.words-words.ensures) (ap fault_said c.in_default.is)
 
 pub returns : goal.returns
 returns c =

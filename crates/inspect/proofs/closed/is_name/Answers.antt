@@ -16,4 +16,4 @@ returns c =
     let bytes = c.args.strings.now in
     let at = c.args.offset in
     let same = take_rest bytes at in
-    ap (λ n. ltb n (length (take (length bytes - at) (drop at bytes)))) c.name-length.ensures ∙ ap (λ l. ltb (prefix_len named l) (length l)) same ∙ sym (name_is bytes at)
+    ap (λ n. ltb n (length (take (length bytes - at) (drop at bytes)))) c.name_length.ensures ∙ ap (λ l. ltb (prefix_len named l) (length l)) same ∙ sym (name_is bytes at)

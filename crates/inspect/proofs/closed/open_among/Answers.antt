@@ -21,7 +21,7 @@ returns-in-Some c =
 
 pub loop-at-preserved : goal.loop-at-preserved
 loop-at-preserved c =
-    open_go c.args.strings.now (length c.args.rows.now) c.args.elements.now c.args.rows.now c.loop-at.at blank _ _ c.loop-at.invariant c.loop-at-test.true c.open-at.ensures (ap fault_said c.in-default.is)
+    open_go c.args.strings.now (length c.args.rows.now) c.args.elements.now c.args.rows.now c.loop-at.at blank _ _ c.loop-at.invariant c.loop-at-test.true c.open_at.ensures (ap fault_said c.in_default.is)
 
 pub returns : goal.returns
 returns c =

@@ -9,7 +9,7 @@ returns-in-Some c es sections grants =
 
 pub loop-at-preserved : goal.loop-at-preserved
 loop-at-preserved c es sections grants =
-    each_go _ c.args.tail.now c.loop-at.at _ (c.loop-at.invariant es sections grants) _ _ c.loop-at-test.true (c.one-fault.ensures es sections grants) c.words-words.ensures (ap fixup_fault c.in-default.is)
+    each_go _ c.args.tail.now c.loop-at.at _ (c.loop-at.invariant es sections grants) _ _ c.loop-at-test.true (c.one_fault.ensures es sections grants) c.words-words.ensures (ap fixup_fault c.in_default.is)
 
 pub returns : goal.returns
 returns c es sections grants = each_none _ c.args.tail.now c.loop-at.at _ (c.loop-at.invariant es sections grants) c.loop-at-test.false

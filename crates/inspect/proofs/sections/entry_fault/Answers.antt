@@ -16,7 +16,7 @@ pub returns-then-number-eq-VAR : goal.returns-then-number-eq-VAR
 returns-then-number-eq-VAR c es sections grants =
     let rows = c.args.rows.now in
     let ws = c.args.words.now in
-    c.symbol-fault.ensures rows es sections grants ∙
+    c.symbol_fault.ensures rows es sections grants ∙
     entry_var (job_of rows es c.args.strings.now (request_of sections c.args.symbols.now c.args.names.now grants)) c.args.section c.args.entry ws (decl_of es (get_or rows (get_or ws 0 0) blank))
     (decl_found rows es (get_or ws 0 0) blank c.if-at-rows.true) (eq-eqb _ _ (sym (ap kind_number c.kind.ensures) ∙ sym c.number.ensures ∙ c.if-number-eq-VAR.true))
 

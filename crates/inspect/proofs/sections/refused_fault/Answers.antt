@@ -5,12 +5,12 @@ use Rattle.inspect.proofs.Faults.{few_elements}
 use Rattle.inspect.proofs.Entries.{members_cut}
 use Rattle.inspect.proofs.sections.refused_fault.Goals as goal
 
-pub entries-fault-requires : goal.entries-fault-requires
-entries-fault-requires c = omega (arith, ap length c.row-tail-tail.ensures, length-take (elements_of c.args.row.now.head.info) (drop c.args.row.now.first c.args.elements.now), few_elements c.args.row.now.head.info)
+pub entries_fault-requires : goal.entries_fault-requires
+entries_fault-requires c = omega (arith, ap length c.row_tail-tail.ensures, length-take (elements_of c.args.row.now.head.info) (drop c.args.row.now.first c.args.elements.now), few_elements c.args.row.now.head.info)
 
 pub returns : goal.returns
 returns c =
     let info = c.args.row.now.head.info in
     let tail = take (elements_of info) (drop c.args.row.now.first c.args.elements.now) in
-    c.entries-fault.ensures c.args.elements.now c.args.symbols.now (λ f. true) ∙
-    ap (λ l. each_fault (member_fault c.args.id) 0 (map (λ e. e.words) l)) c.row-tail-tail.ensures ∙ members_cut info c.requires tail c.args.id
+    c.entries_fault.ensures c.args.elements.now c.args.symbols.now (λ f. true) ∙
+    ap (λ l. each_fault (member_fault c.args.id) 0 (map (λ e. e.words) l)) c.row_tail-tail.ensures ∙ members_cut info c.requires tail c.args.id

@@ -9,6 +9,6 @@ use Rattle.inspect.proofs.sections.section_fault.Goals as goal
 pub returns-then-granted : goal.returns-then-granted
 returns-then-granted c grants same =
     let es = c.args.elements.now in
-    c.granted-fault.ensures grants ∙
+    c.granted_fault.ensures grants ∙
     section_granted (job_of c.args.rows.now es c.args.strings.now (request_of c.args.sections.now c.args.symbols.now c.args.names.now grants)) c.args.id (decl_of es c.args.row.now)
     (eq-eqb _ _ (sym (ap kind_number c.kind.ensures) ∙ sym c.number.ensures ∙ c.if-number-ne-DATASEC.false)) (sym same ∙ c.if-granted.true)

@@ -8,5 +8,5 @@ pub returns : goal.returns
 returns c grants same =
     let rows = c.args.rows.now in
     let cut : c.min.result - 0 ≡ min (length rows) 1048575 = omega arith in
-    c.sections-among.ensures grants same ∙
+    c.sections_among.ensures grants same ∙
     ap (λ l. sections_fault (job_of l c.args.elements.now c.args.strings.now (request_of c.args.sections.now c.args.symbols.now c.args.names.now grants))) (ap (λ n. take n rows) cut ∙ take_min 1048575 rows)

@@ -12,11 +12,11 @@ returns-then-index-tail c =
     let blank : Element = record { words = [] } in
     let kind = kind_of row.head.info in
     c.typed.ensures ∙
-    ap (λ k. typed k (get_or c.row-tail-tail.result.now c.args.index blank).words) c.kind.ensures ∙
-    ap (λ (l : List Element). typed kind (get_or l c.args.index blank).words) c.row-tail-tail.ensures ∙
-    element_found row c.args.elements.now c.args.index blank (subst P c.row-tail-tail.ensures c.if-index-tail.true)
+    ap (λ k. typed k (get_or c.row_tail-tail.result.now c.args.index blank).words) c.kind.ensures ∙
+    ap (λ (l : List Element). typed kind (get_or l c.args.index blank).words) c.row_tail-tail.ensures ∙
+    element_found row c.args.elements.now c.args.index blank (subst P c.row_tail-tail.ensures c.if-index-tail.true)
 
 pub returns-else-index-tail : goal.returns-else-index-tail
 returns-else-index-tail c =
     let P : List Element → Type 0 = λ l. length l ≤ c.args.index in
-    element_missing c.args.row.now c.args.elements.now c.args.index (subst P c.row-tail-tail.ensures c.if-index-tail.false)
+    element_missing c.args.row.now c.args.elements.now c.args.index (subst P c.row_tail-tail.ensures c.if-index-tail.false)

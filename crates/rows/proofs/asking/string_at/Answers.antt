@@ -13,18 +13,18 @@ rest_is bytes offset at e = take_rest bytes at ∙ ap (λ n. drop n bytes) e ∙
 pub returns-then-length-rest : goal.returns-then-length-rest
 returns-then-length-rest c =
     let bytes = c.args.strings.now in
-    let n = c.name-length-length.result in
+    let n = c.name_length-length.result in
     let same = rest_is bytes c.args.offset c.min-at.result c.min-at.ensures in
     let none : n - 0 ≡ n = omega arith in
     let P : List ℕ → Type 0 = λ l. n < length l in
     ap (λ m. accepted (take m (take (length bytes - c.min-at.result) (drop c.min-at.result bytes)))) none ∙
     ap (λ l. accepted (take n l)) same ∙
-    name_found bytes c.args.holder c.args.offset n (c.name-length-length.ensures ∙ ap (prefix_len named) same) (subst P same c.if-length-rest.true)
+    name_found bytes c.args.holder c.args.offset n (c.name_length-length.ensures ∙ ap (prefix_len named) same) (subst P same c.if-length-rest.true)
 
 pub returns-else-length-rest : goal.returns-else-length-rest
 returns-else-length-rest c =
     let bytes = c.args.strings.now in
-    let n = c.name-length-length.result in
+    let n = c.name_length-length.result in
     let same = rest_is bytes c.args.offset c.min-at.result c.min-at.ensures in
     let P : List ℕ → Type 0 = λ l. length l ≤ n in
-    name_missing bytes c.args.holder c.args.offset n (c.name-length-length.ensures ∙ ap (prefix_len named) same) (subst P same c.if-length-rest.false)
+    name_missing bytes c.args.holder c.args.offset n (c.name_length-length.ensures ∙ ap (prefix_len named) same) (subst P same c.if-length-rest.false)

@@ -5,7 +5,7 @@ use Rattle.rows.proofs.asking.type_name.Goals as goal
 
 pub returns-then-at-rows : goal.returns-then-at-rows
 returns-then-at-rows c es =
-    c.string-at.ensures ∙
+    c.string_at.ensures ∙
     ap (λ d. string_at c.args.strings.now (Some c.args.id) d.name) (sym (decl_found c.args.rows.now es c.args.id _ c.if-at-rows.true)) ∙
     sym (id_found c.args.rows.now es c.args.id _ _ c.if-at-rows.true)
 

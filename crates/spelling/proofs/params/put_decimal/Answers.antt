@@ -6,10 +6,10 @@ use Rattle.spelling.proofs.params.put_decimal.Goals as goal
 
 pub loop-rest-init : goal.loop-rest-init
 loop-rest-init c =
-    (record { written = []; whole = sym (append-nil (decimal c.args.number)); area_is = sym (over_none (c.args.at + c.decimal-len.result) c.args.area.now); place_is = ap (λ n. c.args.at + n) c.decimal-len.ensures }, omega arith)
+    (record { written = []; whole = sym (append-nil (decimal c.args.number)); area_is = sym (over_none (c.args.at + c.decimal_len.result) c.args.area.now); place_is = ap (λ n. c.args.at + n) c.decimal_len.ensures }, omega arith)
 
-pub overflow-sub-place : goal.overflow-sub-place
-overflow-sub-place c = omega (arith, digit_place c.loop-rest.area c.args.area.now c.args.at c.args.number c.loop-rest.rest c.loop-rest.place c.loop-rest.invariant.0 (omega arith) c.requires)
+pub overflow_sub-place : goal.overflow_sub-place
+overflow_sub-place c = omega (arith, digit_place c.loop-rest.area c.args.area.now c.args.at c.args.number c.loop-rest.rest c.loop-rest.place c.loop-rest.invariant.0 (omega arith) c.requires)
 
 pub bounds-area-place : goal.bounds-area-place
 bounds-area-place c = omega (arith, digit_place c.loop-rest.area c.args.area.now c.args.at c.args.number c.loop-rest.rest c.loop-rest.place c.loop-rest.invariant.0 (omega arith) c.requires)

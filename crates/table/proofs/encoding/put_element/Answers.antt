@@ -17,7 +17,7 @@ returns g c =
     ap (λ n. take n (get_or read 0 0 ∷ get_or read 1 0 ∷ get_or read 2 0 ∷ [])) (omega arith) ∙ ap (take width) whole in
     let long : length (take width words) ≡ width = length-take width words ∙ omega arith in
     record {
-      bytes = c.put-words.ensures.bytes ∙ ap (λ ws. over at (coded g.O.ByteOrder.order ws) c.args.out.now) front;
+      bytes = c.put_words.ensures.bytes ∙ ap (λ ws. over at (coded g.O.ByteOrder.order ws) c.args.out.now) front;
       long = long;
-      end = c.put-words.ensures.end ∙ ap (λ ws. at + 4 * length ws) front ∙ ap (λ n. at + 4 * n) long;
+      end = c.put_words.ensures.end ∙ ap (λ ws. at + 4 * length ws) front ∙ ap (λ n. at + 4 * n) long;
     }

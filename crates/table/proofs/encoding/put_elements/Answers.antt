@@ -14,8 +14,8 @@ blank = record { words = [] }
 pub loop-element-init : goal.loop-element-init
 loop-element-init g c = (omega (arith, mul-zero c.args.width), sym (mul-zero c.args.width), sym (over_none c.args.at c.args.out.now))
 
-pub put-element-end-requires : goal.put-element-end-requires
-put-element-end-requires g c = record {
+pub put_element-end-requires : goal.put_element-end-requires
+put_element-end-requires g c = record {
   wide = c.requires.wide;
   room = omega (arith, elements_fit c.args.width c.loop-element.element-index (length c.args.tail.now) c.loop-element-test.true);
 }
@@ -23,12 +23,12 @@ put-element-end-requires g c = record {
 pub loop-element-preserved : goal.loop-element-preserved
 loop-element-preserved g c =
     let i = c.loop-element.element-index in (
-      c.put-element-end.ensures.end ∙ elements_end g.O.ByteOrder.order c.args.width c.args.at i c.loop-element.end c.args.tail.now blank c.put-element-end.new.out c.loop-element.out c.args.out.now
-          c.loop-element.invariant.0 c.loop-element.invariant.1 c.loop-element.invariant.2 c.loop-element-test.true c.put-element-end.ensures.bytes c.put-element-end.ensures.long c.requires.room,
-      elements_long g.O.ByteOrder.order c.args.width c.args.at i c.loop-element.end c.args.tail.now blank c.put-element-end.new.out c.loop-element.out c.args.out.now
-          c.loop-element.invariant.0 c.loop-element.invariant.1 c.loop-element.invariant.2 c.loop-element-test.true c.put-element-end.ensures.bytes c.put-element-end.ensures.long c.requires.room,
-      elements_bytes g.O.ByteOrder.order c.args.width c.args.at i c.loop-element.end c.args.tail.now blank c.put-element-end.new.out c.loop-element.out c.args.out.now
-          c.loop-element.invariant.0 c.loop-element.invariant.1 c.loop-element.invariant.2 c.loop-element-test.true c.put-element-end.ensures.bytes c.put-element-end.ensures.long c.requires.room,
+      c.put_element-end.ensures.end ∙ elements_end g.O.ByteOrder.order c.args.width c.args.at i c.loop-element.end c.args.tail.now blank c.put_element-end.new.out c.loop-element.out c.args.out.now
+          c.loop-element.invariant.0 c.loop-element.invariant.1 c.loop-element.invariant.2 c.loop-element-test.true c.put_element-end.ensures.bytes c.put_element-end.ensures.long c.requires.room,
+      elements_long g.O.ByteOrder.order c.args.width c.args.at i c.loop-element.end c.args.tail.now blank c.put_element-end.new.out c.loop-element.out c.args.out.now
+          c.loop-element.invariant.0 c.loop-element.invariant.1 c.loop-element.invariant.2 c.loop-element-test.true c.put_element-end.ensures.bytes c.put_element-end.ensures.long c.requires.room,
+      elements_bytes g.O.ByteOrder.order c.args.width c.args.at i c.loop-element.end c.args.tail.now blank c.put_element-end.new.out c.loop-element.out c.args.out.now
+          c.loop-element.invariant.0 c.loop-element.invariant.1 c.loop-element.invariant.2 c.loop-element-test.true c.put_element-end.ensures.bytes c.put_element-end.ensures.long c.requires.room,
     )
 
 pub returns : goal.returns

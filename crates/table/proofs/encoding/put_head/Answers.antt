@@ -18,7 +18,7 @@ returns g c =
     take_three h.name_offset h.info h.size_or_type extra h.extra in
     let long : length (head_words h extra) ≡ 3 + extra = omega (arith, length-take extra h.extra) in
     record {
-      bytes = c.put-words.ensures.bytes ∙ ap (λ ws. over at (coded g.O.ByteOrder.order ws) c.args.out.now) front;
+      bytes = c.put_words.ensures.bytes ∙ ap (λ ws. over at (coded g.O.ByteOrder.order ws) c.args.out.now) front;
       long = long;
-      end = c.put-words.ensures.end ∙ ap (λ ws. at + 4 * length ws) front ∙ omega arith;
+      end = c.put_words.ensures.end ∙ ap (λ ws. at + 4 * length ws) front ∙ omega arith;
     }

@@ -16,8 +16,8 @@ blank = record { head = record { name_offset = 0; info = 0; size_or_type = 0; ex
 pub loop-row-init : goal.loop-row-init
 loop-row-init g c = (omega arith, refl, sym (over_none c.args.at c.args.out.now))
 
-pub put-row-end-requires : goal.put-row-end-requires
-put-row-end-requires g c = record {
+pub put_row-end-requires : goal.put_row-end-requires
+put_row-end-requires g c = record {
   placed = c.requires.placed c.loop-row.row-index blank c.loop-row-test.true;
   room = omega (arith, rows_fit c.args.rows.now c.loop-row.row-index blank c.loop-row-test.true);
 }
@@ -26,12 +26,12 @@ pub loop-row-preserved : goal.loop-row-preserved
 loop-row-preserved g c =
     let o = g.O.ByteOrder.order in
     let i = c.loop-row.row-index in (
-      c.put-row-end.ensures.end ∙ rows_end o c.args.elements.now c.args.at i c.loop-row.end c.args.rows.now blank c.put-row-end.new.out c.loop-row.out c.args.out.now
-          c.loop-row.invariant.0 c.loop-row.invariant.1 c.loop-row.invariant.2 c.loop-row-test.true c.put-row-end.ensures.bytes c.put-row-end.ensures.long c.requires.room,
-      rows_long o c.args.elements.now c.args.at i c.loop-row.end c.args.rows.now blank c.put-row-end.new.out c.loop-row.out c.args.out.now
-          c.loop-row.invariant.0 c.loop-row.invariant.1 c.loop-row.invariant.2 c.loop-row-test.true c.put-row-end.ensures.bytes c.put-row-end.ensures.long c.requires.room,
-      rows_bytes o c.args.elements.now c.args.at i c.loop-row.end c.args.rows.now blank c.put-row-end.new.out c.loop-row.out c.args.out.now
-          c.loop-row.invariant.0 c.loop-row.invariant.1 c.loop-row.invariant.2 c.loop-row-test.true c.put-row-end.ensures.bytes c.put-row-end.ensures.long c.requires.room,
+      c.put_row-end.ensures.end ∙ rows_end o c.args.elements.now c.args.at i c.loop-row.end c.args.rows.now blank c.put_row-end.new.out c.loop-row.out c.args.out.now
+          c.loop-row.invariant.0 c.loop-row.invariant.1 c.loop-row.invariant.2 c.loop-row-test.true c.put_row-end.ensures.bytes c.put_row-end.ensures.long c.requires.room,
+      rows_long o c.args.elements.now c.args.at i c.loop-row.end c.args.rows.now blank c.put_row-end.new.out c.loop-row.out c.args.out.now
+          c.loop-row.invariant.0 c.loop-row.invariant.1 c.loop-row.invariant.2 c.loop-row-test.true c.put_row-end.ensures.bytes c.put_row-end.ensures.long c.requires.room,
+      rows_bytes o c.args.elements.now c.args.at i c.loop-row.end c.args.rows.now blank c.put_row-end.new.out c.loop-row.out c.args.out.now
+          c.loop-row.invariant.0 c.loop-row.invariant.1 c.loop-row.invariant.2 c.loop-row-test.true c.put_row-end.ensures.bytes c.put_row-end.ensures.long c.requires.room,
     )
 
 pub returns : goal.returns

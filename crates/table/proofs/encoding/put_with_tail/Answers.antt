@@ -10,10 +10,10 @@ returns g c =
     let width = c.args.width in
     let words = head_words c.args.head.now 0 in
     let more = flat_map (kept width) c.args.tail.now in
-    let long : length more ≡ width * length c.args.tail.now = c.put-elements.ensures.long in
+    let long : length more ≡ width * length c.args.tail.now = c.put_elements.ensures.long in
     record {
-      bytes = over_words g.O.ByteOrder.order words more c.args.at c.put-head-behind.result c.put-elements.new.out c.put-head-behind.new.out c.args.out.now
-          c.put-head-behind.ensures.bytes (omega arith) c.put-elements.ensures.bytes (omega arith);
+      bytes = over_words g.O.ByteOrder.order words more c.args.at c.put_head-behind.result c.put_elements.new.out c.put_head-behind.new.out c.args.out.now
+          c.put_head-behind.ensures.bytes (omega arith) c.put_elements.ensures.bytes (omega arith);
       long = omega arith;
       end = omega arith;
     }

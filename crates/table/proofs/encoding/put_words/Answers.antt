@@ -11,8 +11,8 @@ loop-i-init g c = sym (over_none c.args.at c.args.out.now)
 
 pub loop-i-preserved : goal.loop-i-preserved
 loop-i-preserved g c =
-    over_word_more g.O.ByteOrder.order c.args.words.now c.loop-i.i c.args.at 0 c.put-word.new.out c.loop-i.out c.args.out.now
-    c.loop-i.invariant c.put-word.ensures c.loop-i-test.true c.requires
+    over_word_more g.O.ByteOrder.order c.args.words.now c.loop-i.i c.args.at 0 c.put_word.new.out c.loop-i.out c.args.out.now
+    c.loop-i.invariant c.put_word.ensures c.loop-i-test.true c.requires
 
 pub returns : goal.returns
 returns g c = record {

@@ -19,7 +19,7 @@ returns c =
     let few : take 1048575 (used_rows s) ≡ used_rows s = take_all 1048575 (used_rows s) (simp length-take (omega arith)) in
     let whole : s.string_len - 0 ≡ s.string_len = omega arith in
     let rows : take 1048575 c.rows.result.now ≡ used_rows s = ap (take 1048575) c.rows.ensures ∙ few in
-    c.id-by-type-name-kind.ensures es ∙
+    c.id_by_type_name_kind.ensures es ∙
     ap (λ (l : List TypeRow). find_from (map (decl_of es) l) (take (s.string_len - 0) c.args.strings.now) name c.args.kind 0) rows ∙
     ap (λ n. find_from t.decls (take n c.args.strings.now) name c.args.kind 0) whole ∙
     sym (ap (λ b. cond (not b) (refused no_table) (find_from t.decls (take s.string_len c.args.strings.now) name c.args.kind 0)) held)

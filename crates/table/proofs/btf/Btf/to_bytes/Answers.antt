@@ -8,8 +8,8 @@ use Rattle.table.proofs.btf.Btf.to_bytes.Goals as goal
 
 pub returns : goal.returns
 returns g c = record {
-  file = c.to-bytes.ensures;
-  one-file = one_file_one_table;
+  file = c.to_bytes.ensures;
+  one_file = one_file_one_table;
   sizes = sizes_and_ends_stay;
   rules = rules_done;
   kinds = no_refused_kind_left;

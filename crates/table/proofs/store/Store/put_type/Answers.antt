@@ -12,14 +12,14 @@ returns g c =
       kept = kept_put c.args.self.now _ c.args.head (map packed words) c.requires.kept
           (record {
             types = refl;
-            elements = c.put-tail.ensures;
+            elements = c.put_tail.ensures;
             type_count = refl;
             element_count = ap (λ n. c.args.self.now.element_count + n) (sym as_long);
             string_len = refl;
           })
-          c.requires.row.0 c.requires.row.1 (omega arith) (omega arith) (c.requires.suits ∙ sym as_long) (ap (λ n. c.args.self.now.type_bytes + n) c.type-info-size.ensures);
+          c.requires.row.0 c.requires.row.1 (omega arith) (omega arith) (c.requires.suits ∙ sym as_long) (ap (λ n. c.args.self.now.type_bytes + n) c.type_info_size.ensures);
       id = refl;
       types = refl;
-      elements = c.put-tail.ensures;
+      elements = c.put_tail.ensures;
       counts = (refl, (refl, refl));
     }

@@ -20,17 +20,17 @@ returns-then-out-needed g c =
     let stated = bytes_stated s c.args.strings.now c.requires in
     encode_short g.O.ByteOrder.order t c.args.out.now (24 + s.type_bytes + s.string_len) (sym c.holds.ensures ∙ c.if-not-holds.false) (omega arith) c.if-out-needed.true
 
-pub put-types-text-requires : goal.put-types-text-requires
-put-types-text-requires g c =
+pub put_types-text-requires : goal.put_types-text-requires
+put_types-text-requires g c =
     let s = c.args.self.now in
     let P : List TypeRow → Type 0 = λ rows. (k : ℕ) (d : TypeRow) → k < length rows → Placed (length s.elements.now) (get_or rows k d) in
-    let Q : List TypeRow → Type 0 = λ rows. 24 + sum_by row_length rows ≤ length c.put-header.new.out in
+    let Q : List TypeRow → Type 0 = λ rows. 24 + sum_by row_length rows ≤ length c.put_header.new.out in
     let used_placed : P (used_rows s) = λ k d h.
     let short : k < s.type_count = omega (arith, length-take-le s.type_count s.types.now c.requires.rows_within) in
     let R : TypeRow → Type 0 = λ r. Placed (length s.elements.now) r in
     let was = c.requires.placed k d short in
     subst R (sym (get_or-take s.type_count s.types.now k d short)) (omega arith) in
-    let long = c.put-header.auto.out in
+    let long = c.put_header.auto.out in
     let counted = c.requires.counted in
     record {
       placed = subst P (sym c.rows.ensures) used_placed;
@@ -49,19 +49,19 @@ returns g c =
     let counted : sum_by row_length (used_rows s) ≡ bytes = sym c.requires.counted in
     let rows_part : type_part o (map (decl_of s.elements.now) c.rows.result.now) ≡ type_part o t.decls = ap (λ rows. type_part o (map (decl_of s.elements.now) rows)) c.rows.ensures in
     let long : length (type_part o t.decls) ≡ bytes =
-    ap length (sym rows_part) ∙ c.put-types-text.ensures.long ∙ ap (sum_by row_length) c.rows.ensures ∙ counted in
-    let behind : c.put-types-text.result ≡ 24 + bytes =
-    c.put-types-text.ensures.end ∙ ap (λ rows. 24 + sum_by row_length rows) c.rows.ensures ∙ ap (λ n. 24 + n) counted in
+    ap length (sym rows_part) ∙ c.put_types-text.ensures.long ∙ ap (sum_by row_length) c.rows.ensures ∙ counted in
+    let behind : c.put_types-text.result ≡ 24 + bytes =
+    c.put_types-text.ensures.end ∙ ap (λ rows. 24 + sum_by row_length rows) c.rows.ensures ∙ ap (λ n. 24 + n) counted in
     let within : s.string_len ≤ length c.args.strings.now = leb-true s.string_len (length c.args.strings.now) (and_parts (ltb 0 (length t.decls)) (leb s.string_len (length c.args.strings.now)) held).1 in
     let whole : s.string_len - 0 ≡ s.string_len = omega arith in
-    let copied : c.copy-from-slice.new.self ≡ text t = c.copy-from-slice.ensures.after ∙ ap (λ n. take n c.args.strings.now) whole in
+    let copied : c.copy_from_slice.new.self ≡ text t = c.copy_from_slice.ensures.after ∙ ap (λ n. take n c.args.strings.now) whole in
     let strings : length (text t) ≡ s.string_len = length-take s.string_len c.args.strings.now ∙ omega arith in
-    let size : needed - c.put-types-text.result ≡ length c.copy-from-slice.new.self = omega (arith, ap length copied) in
-    let later = put_mid c.put-types-text.result (needed - c.put-types-text.result) c.put-types-text.new.out c.copy-from-slice.new.self in
-    let last : later ≡ over c.put-types-text.result (text t) c.put-types-text.new.out =
-    part_put c.put-types-text.result (needed - c.put-types-text.result) c.put-types-text.new.out c.copy-from-slice.new.self size ∙
-    ap (λ l. over c.put-types-text.result l c.put-types-text.new.out) copied in
+    let size : needed - c.put_types-text.result ≡ length c.copy_from_slice.new.self = omega (arith, ap length copied) in
+    let later = put_mid c.put_types-text.result (needed - c.put_types-text.result) c.put_types-text.new.out c.copy_from_slice.new.self in
+    let last : later ≡ over c.put_types-text.result (text t) c.put_types-text.new.out =
+    part_put c.put_types-text.result (needed - c.put_types-text.result) c.put_types-text.new.out c.copy_from_slice.new.self size ∙
+    ap (λ l. over c.put_types-text.result l c.put_types-text.new.out) copied in
     encode_fits o t c.args.out.now needed held (ap (λ n. 24 + n + s.string_len) stated) later c.if-out-needed.false
-    (parts_put o t bytes c.put-types-text.result c.args.out.now c.put-header.new.out c.put-types-text.new.out later
+    (parts_put o t bytes c.put_types-text.result c.args.out.now c.put_header.new.out c.put_types-text.new.out later
     stated behind long strings (subst (λ n. 24 + n + s.string_len ≤ length c.args.out.now) stated c.if-out-needed.false)
-    c.put-header.ensures (c.put-types-text.ensures.bytes ∙ ap (λ bs. over 24 bs c.put-header.new.out) rows_part) last)
+    c.put_header.ensures (c.put_types-text.ensures.bytes ∙ ap (λ bs. over 24 bs c.put_header.new.out) rows_part) last)
