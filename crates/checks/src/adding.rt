@@ -7,6 +7,7 @@ use crate::calls::*;
 use elements::{BtfEnum, BtfEnum64, BtfMember, BtfParam, DataSecEntry, Element, ElementType};
 use layout::BtfKind::*;
 use std::process::Abort;
+use std::test::Fail;
 use table::{Btf, TypeRow};
 
 // Where two faults are present, the kind comes before the flag, that before the linkage, all before the count.

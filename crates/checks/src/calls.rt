@@ -314,10 +314,11 @@ fn refuse(
     strings: &mut [u8],
     call: &Call,
     want: Said,
+    place: usize,
 ) -> Result<(), Fail> {
     let before = look(heap, table, strings)?;
-    assert_eq!(rt; act(heap, table, strings, call)?, want);
-    assert_eq!(rt; look(heap, table, strings)?, before);
+    assert_eq!(rt; act(heap, table, strings, call)?, want, "step {place}");
+    assert_eq!(rt; look(heap, table, strings)?, before, "step {place}");
     Ok(())
 }
 
@@ -328,13 +329,14 @@ fn step(
     strings: &mut [u8],
     call: &Call,
     want: Said,
+    place: usize,
 ) -> Result<(), Fail> {
     match want {
-        Said::No(..) => refuse(rt, heap, table, strings, call, want),
+        Said::No(..) => refuse(rt, heap, table, strings, call, want, place),
         _ => {
-            assert_eq!(rt; act(heap, table, strings, call)?, want);
+            assert_eq!(rt; act(heap, table, strings, call)?, want, "step {place}");
             Ok(())
-        },
+        }
     }
 }
 
@@ -347,7 +349,7 @@ pub fn play_on(
     steps: &[(Call, Said)],
 ) -> Result<(), Fail> {
     for (i, (call, want)) in steps.iter().enumerate() {
-        step(rt, heap, table, strings, call, *want).note(format_args!("step {i}"))?;
+        step(rt, heap, table, strings, call, *want, i)?;
     }
     Ok(())
 }

@@ -9,6 +9,7 @@ use layout::Linkage;
 use order::{BigEndian, ByteOrder, LittleEndian};
 use std::alloc::{AllocError, Global};
 use std::process::Abort;
+use std::test::Fail;
 use table::{Btf, TypeRow};
 
 // Into a buffer of `room` bytes 0xaa: all of the file and nothing more, or the buffer stays as it is.

@@ -5,6 +5,7 @@ use crate::calls::Question::*;
 use crate::calls::Said::*;
 use crate::calls::*;
 use layout::BtfKind::*;
+use std::test::Fail;
 
 // Id 0 counts. Each Const has 12 bytes.
 const DECLARATIONS: &[(Call, Said)] = &[

@@ -4,6 +4,7 @@ use crate::calls::Question::*;
 use crate::calls::Said::*;
 use crate::calls::*;
 use layout::BtfKind::*;
+use std::test::Fail;
 use table::{Btf, TypeRow};
 
 // Over an area of zero bytes, which are no names before they are added.

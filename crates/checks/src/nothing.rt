@@ -9,6 +9,7 @@ use layout::BtfKind::*;
 use layout::PointerWidth::*;
 use std::alloc::Global;
 use std::process::Abort;
+use std::test::Fail;
 use table::{Btf, TypeRow};
 
 const NO_TABLE: Said = No(1, None, None, None);

@@ -6,6 +6,7 @@ use crate::calls::Said::*;
 use crate::calls::*;
 use layout::BtfKind::*;
 use layout::PointerWidth::*;
+use std::test::Fail;
 
 // Ids are named before they exist.
 const RESOLVED: &[(Call, Said)] = &[
