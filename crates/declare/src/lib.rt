@@ -1,5 +1,7 @@
 // The constructors of declarations, by the names that aya-obj has for them. The elements of a declaration
 // are given beside it where it is added.
+#![tactic(auto)]
+
 ghost use Rattle.std.specs.Prelude.{◌≡◌, true, false, [], ◌∷◌};
 ghost use Rattle.layout.specs.Kinds.{linkage_number};
 ghost use Rattle.layout.specs.Heads.{declared, int_data, signed_word};

@@ -1,4 +1,6 @@
 // The elements of declarations: enum values, parameters, members and section entries.
+#![tactic(auto)]
+
 ghost use Rattle.std.specs.Prelude.{◌≡◌, ℕ, ◌<◌, Bool, true, List, [], length};
 ghost use Rattle.layout.specs.Kinds.{element_words};
 ghost use Rattle.elements.specs.Packing.{packed};

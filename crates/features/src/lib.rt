@@ -1,4 +1,6 @@
 // Features of BTF that a kernel may lack, sources that say which it has, and a resolver that asks about each once.
+#![tactic(auto)]
+
 ghost use Rattle.std.specs.Prelude.{◌≡◌, ℕ, Bool, false, not, ◌||◌, ◌==◌, bit_and, bit_or};
 ghost use Rattle.features.specs.declared.BtfFeature.{BtfFeature};
 ghost use Rattle.features.specs.Features.{number_of, same, bit_of, with_bit, has, allows};

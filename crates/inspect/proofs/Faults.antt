@@ -1,14 +1,13 @@
 -- Faults found one after the other.
-use Rattle.std.proofs.Common.{◌≡◌, ℕ, ◌+◌, ◌<◌, ◌≤◌, ltb, List, [], ◌∷◌, map, length, get_or, take, drop, Some, None, Option, sym, refl, ap, ◌∙◌, arith}
+use Rattle.std.proofs.Common.{◌≡◌, ℕ, ◌+◌, ◌<◌, ◌≤◌, ltb, List, [], map, length, get_or, drop, Some, None, Option, sym, ap, ◌∙◌, arith}
 use lib.ListN.{length-map}
 use Rattle.std.proofs.lemmas.List.{at_drop_more, at_drop_all, get_or-map}
 use Rattle.layout.specs.Refusals.{Refusal}
 use Rattle.layout.specs.Info.{kind_of, low_of, elements_of}
 use Rattle.std.proofs.lemmas.Bool.{cond_both}
 use Rattle.layout.specs.Kinds.{element_words}
-use Rattle.layout.specs.declared.kind.BtfKind.{BtfKind}
 use Rattle.elements.specs.declared.Element.{Element}
-use Rattle.meaning.specs.Table.{Decl, void}
+use Rattle.meaning.specs.Table.{void}
 use Rattle.rows.specs.declared.row.TypeRow.{TypeRow}
 use Rattle.rows.specs.Rows.{decl_of}
 use Rattle.rewriting.specs.Sections.{each_fault}

@@ -1,8 +1,8 @@
 -- Where a name stands.
-use Rattle.std.proofs.Common.{◌≡◌, ℕ, zero, suc, ◌+◌, ◌-◌, ◌<◌, ◌≤◌, true, false, cond, not, eqb, ltb, List, [], ◌∷◌, length, get_or, take, drop, is_some, Some, None, Option, sym, refl, ap, ◌∙◌, subst, arith, length-drop}
+use Rattle.std.proofs.Common.{◌≡◌, ℕ, zero, suc, ◌+◌, ◌-◌, ◌<◌, ◌≤◌, true, false, eqb, ltb, List, [], ◌∷◌, length, get_or, take, drop, is_some, Some, None, Option, sym, ap, ◌∙◌, arith, length-drop}
 use Rattle.std.specs.List.{prefix_len}
 use Rattle.std.proofs.lemmas.List.{drop_all, get_or-drop}
-use Rattle.std.proofs.lemmas.Bool.{cond_both, lt-ltb, le-ltb, eq-eqb, not_from_true, both_ways}
+use Rattle.std.proofs.lemmas.Bool.{cond_both, lt-ltb, eq-eqb, not_from_true, both_ways}
 use Rattle.meaning.specs.Adding.{named}
 use Rattle.meaning.specs.Questions.{string_from}
 use Rattle.inspect.specs.Ends.{Ends}

@@ -1,4 +1,6 @@
 // What a rewriting checks before it changes anything.
+#![tactic(auto)]
+
 mod closed;
 mod error;
 mod names;

@@ -1,11 +1,11 @@
 -- What is kept of a declaration as a caller gives it, but for its elements.
-use Rattle.std.specs.Prelude.{ℕ, ◌+◌, ◌-◌, ◌*◌, ◌/◌, ◌%◌, ◌^◌, Bool, true, false, cond, List, [], ◌∷◌, ℤ, pos, negsuc, Some, None, Option, slice_index}
+use Rattle.std.specs.Prelude.{ℕ, ◌+◌, ◌-◌, ◌*◌, ◌%◌, ◌^◌, Bool, List, [], ◌∷◌, ℤ, pos, negsuc, Some, None, Option, slice_index}
 use Rattle.layout.specs.declared.kind.BtfKind.{BtfKind}
 use Rattle.layout.specs.declared.kind.BtfKind.TheVariants.{Unknown, Int, Ptr, Array, Struct, Union, Enum, Fwd, Typedef, Volatile, Const, Restrict, Func, FuncProto, Var, DataSec, Float, DeclTag, TypeTag, Enum64}
 use Rattle.layout.specs.declared.head.BtfType.{BtfType}
 use Rattle.layout.specs.declared.declaration.Declaration.{Declaration}
 use Rattle.layout.specs.Kinds.{Third, nothing, bytes, refers, third_word, kind_number}
-use Rattle.layout.specs.Info.{info_word, kind_of, low_of}
+use Rattle.layout.specs.Info.{info_word}
 
 -- a Func keeps its linkage where the others have their element count (sixteen bits are all that there are)
 abbrev pub low_bits : BtfKind → ℕ → ℕ → ℕ

@@ -1,5 +1,5 @@
 -- The info word of btf.h: the element count (of a Func its linkage) in bits 0 to 15, the kind in bits 24 to 28, the flag in bit 31.
-use Rattle.std.specs.Prelude.{ℕ, ◌+◌, ◌*◌, ◌/◌, ◌%◌, ◌^◌, Bool, true, false, cond, ◌==◌, nat_lt}
+use Rattle.std.specs.Prelude.{ℕ, ◌+◌, ◌*◌, ◌/◌, ◌%◌, ◌^◌, Bool, cond, ◌==◌, nat_lt}
 use Rattle.layout.specs.declared.kind.BtfKind.{BtfKind}
 use Rattle.layout.specs.Kinds.{kind_number, kind_at, extra_words, element_words}
 

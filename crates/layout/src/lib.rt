@@ -1,4 +1,6 @@
 // The layout of BTF declarations: kinds, info words, heads, and what a refusal says.
+#![tactic(auto)]
+
 pub mod declaration;
 pub mod error;
 pub mod head;

@@ -1,7 +1,7 @@
 -- Writing at a place, and writing on behind it.
-use Rattle.std.proofs.Common.{◌≡◌, ℕ, ◌+◌, ◌-◌, ◌<◌, ◌≤◌, min, List, [], ◌∷◌, ◌++◌, map, length, get_or, take, drop, set, sym, refl, ap, ◌∙◌, append_assoc, add-zero, arith, length-append, length-drop, length-take}
+use Rattle.std.proofs.Common.{◌≡◌, ℕ, ◌+◌, ◌<◌, ◌≤◌, List, [], ◌∷◌, ◌++◌, map, length, get_or, take, drop, set, sym, ap, ◌∙◌, append_assoc, add-zero, arith, length-append, length-drop, length-take}
 use lib.ListN.{length-map}
-use Rattle.std.proofs.lemmas.List.{take-append-drop, set_at, drop_more, take_at, drop_at, append-nil, drop-drop, take-append-le, length-take-le, get_or_default, drop-append-le, map_more, take_all}
+use Rattle.std.proofs.lemmas.List.{take-append-drop, set_at, drop_more, take_at, drop_at, drop-drop, map_more, take_all}
 use Rattle.meaning.specs.Adding.{over}
 
 module _ {X : Type 0} where

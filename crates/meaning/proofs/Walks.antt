@@ -1,7 +1,7 @@
 -- The steps of a walk.
-use Rattle.std.proofs.Common.{◌≡◌, ℕ, zero, suc, ◌+◌, ◌-◌, ◌<◌, ◌≤◌, cond, ltb, List, length, Some, None, Option, sym, refl, ap, ◌∙◌, sub-one, arith}
+use Rattle.std.proofs.Common.{◌≡◌, ℕ, zero, suc, ◌+◌, ◌-◌, ◌<◌, ◌≤◌, ltb, List, length, Some, None, Option, sym, refl, ap, ◌∙◌, sub-one, arith}
 use Rattle.std.proofs.lemmas.Bool.{lt-ltb, le-ltb, cond-true, cond-false}
-use Rattle.layout.specs.Refusals.{Answer, accepted, refused, refusal}
+use Rattle.layout.specs.Refusals.{accepted, refused, refusal}
 use Rattle.meaning.specs.Table.{Decl}
 use Rattle.meaning.specs.Questions.{Move, moved, walk, unknown, decl_at}
 

@@ -1,7 +1,7 @@
 -- Adding to a table.
-use Rattle.std.specs.Prelude.{ℕ, ◌+◌, min, Bool, true, false, cond, not, ◌&&◌, ◌||◌, List, [], ◌∷◌, ◌++◌, length, take, drop, Some, None, Option, ◌==◌, nat_le, nat_lt}
+use Rattle.std.specs.Prelude.{ℕ, ◌+◌, min, Bool, cond, not, ◌&&◌, ◌||◌, List, [], ◌∷◌, ◌++◌, length, take, drop, Some, None, Option, ◌==◌, nat_le, nat_lt}
 use Rattle.std.specs.List.{prefix_len}
-use Rattle.layout.specs.Kinds.{kind_at, kind_number, takes_flag, has_linkage, element_words, extra_words}
+use Rattle.layout.specs.Kinds.{kind_at, kind_number, takes_flag, has_linkage}
 use Rattle.layout.specs.Heads.{head_kept}
 use Rattle.layout.specs.Refusals.{Refusal, refusal, area_number}
 use Rattle.layout.specs.declared.kind.BtfKind.{BtfKind}

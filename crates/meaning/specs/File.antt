@@ -1,5 +1,5 @@
 -- The bytes of a table: the header of btf.h, the declarations, the strings.
-use Rattle.std.specs.Prelude.{ℕ, ◌+◌, ◌*◌, Bool, cond, not, List, [], ◌∷◌, ◌++◌, length, take, Some, None, sum_by, ◌==◌, nat_lt}
+use Rattle.std.specs.Prelude.{ℕ, ◌+◌, cond, not, List, [], ◌∷◌, ◌++◌, length, take, Some, None, sum_by, ◌==◌, nat_lt}
 use Rattle.std.specs.List.{flat_map}
 use Rattle.order.specs.Order.{Order}
 use Rattle.layout.specs.Kinds.{kind_number, extra_words}

@@ -10,7 +10,7 @@ use Rattle.layout.specs.declared.kind.BtfKind.{BtfKind}
 use Rattle.layout.specs.declared.kind.BtfKind.TheVariants.{Unknown, Int, Ptr, Array, Struct, Union, Enum, Fwd, Typedef, Volatile, Const, Restrict, Func, FuncProto, Var, DataSec, Float, DeclTag, TypeTag, Enum64}
 use Rattle.elements.specs.Typed.{typed}
 use Rattle.elements.specs.declared.BtfElement.{BtfElement}
-use Rattle.meaning.specs.Table.{Decl, Table, void, text, holds, no_table}
+use Rattle.meaning.specs.Table.{Decl, Table, void, holds, no_table}
 use Rattle.meaning.specs.Adding.{named}
 
 abbrev pub decl_kind : Decl → BtfKind

@@ -1,5 +1,5 @@
 -- A table: declarations with their elements, and a string of bytes.
-use Rattle.std.specs.Prelude.{ℕ, min, Bool, true, false, cond, ◌&&◌, List, [], ◌∷◌, length, take, None, nat_le, nat_lt, slice_set}
+use Rattle.std.specs.Prelude.{ℕ, Bool, cond, ◌&&◌, List, [], ◌∷◌, length, take, None, nat_le, nat_lt, slice_set}
 use Rattle.layout.specs.Refusals.{Refusal, Answer, accepted, refused, refusal}
 
 -- A declaration: name offset, info word, third word, three places for extra words, and the words of each element.

@@ -1,1 +1,3 @@
+#![tactic(auto)]
+
 // The definitions of tables, and what is proved of them.

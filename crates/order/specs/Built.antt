@@ -1,5 +1,5 @@
 -- The two byte orders that are built.
-use Rattle.std.specs.Prelude.{◌≡◌, ℕ, ◌+◌, ◌*◌, ◌/◌, ◌%◌, ◌^◌, ◌<◌, List, [], ◌∷◌, length, slice_index, refl}
+use Rattle.std.specs.Prelude.{◌≡◌, ℕ, ◌^◌, ◌<◌, slice_index, refl}
 use Rattle.std.proofs.Common.{ap, arith}
 use Rattle.order.specs.Order.{Order, byte, little_half, little_word, big_half, big_word}
 

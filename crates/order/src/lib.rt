@@ -1,4 +1,6 @@
 // Byte orders: how a 16-bit number and a 32-bit word stand in a file.
+#![tactic(auto)]
+
 ghost use Rattle.std.specs.Prelude.{◌≡◌};
 ghost use Rattle.order.specs.Order.{Order};
 ghost use Rattle.order.specs.Built.{little, big};

@@ -1,5 +1,5 @@
 -- Rewriting a table: every check comes before anything changes.
-use Rattle.std.specs.Prelude.{ℕ, ◌+◌, min, cond, not, List, ◌++◌, length, Some, None, Option, nat_lt}
+use Rattle.std.specs.Prelude.{ℕ, ◌+◌, min, cond, not, ◌++◌, length, Some, None, Option, nat_lt}
 use Rattle.layout.specs.Refusals.{Refusal, area_number}
 use Rattle.layout.specs.declared.error.Area.TheVariants.{Declarations, Elements, Strings}
 use Rattle.meaning.specs.Table.{Table, Outcome, text, holds, refuses, accepts, no_table, most_decls, most_elements, most_strings}

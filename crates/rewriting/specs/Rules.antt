@@ -1,8 +1,8 @@
 -- What each rule makes of a declaration. The rules act in rising id order, each on what lower ids have become; new
 -- declarations and strings go behind the old ones, in the order in which they are first needed.
-use Rattle.std.specs.Prelude.{ℕ, ◌+◌, ◌*◌, max, Bool, true, false, cond, not, ◌&&◌, ◌||◌, List, [], ◌∷◌, ◌++◌, map, length, Some, None, codes, decimal, Option, ◌==◌, nat_lt, slice_index}
+use Rattle.std.specs.Prelude.{ℕ, ◌+◌, ◌*◌, max, Bool, false, cond, not, ◌&&◌, ◌||◌, List, [], ◌∷◌, ◌++◌, map, length, Some, None, codes, decimal, Option, ◌==◌, nat_lt, slice_index}
 use Rattle.std.specs.Str.{bytes_eq}
-use Rattle.layout.specs.Info.{info_word, low_of, flag_of}
+use Rattle.layout.specs.Info.{low_of, flag_of}
 use Rattle.layout.specs.Heads.{declared, head_kept, int_data}
 use Rattle.layout.specs.declared.kind.BtfKind.{BtfKind}
 use Rattle.layout.specs.declared.kind.BtfKind.TheVariants.{Unknown, Int, Ptr, Array, Struct, Union, Enum, Fwd, Typedef, Volatile, Const, Restrict, Func, FuncProto, Var, DataSec, Float, DeclTag, TypeTag, Enum64}

@@ -1,5 +1,5 @@
 -- What may be missing or too large for the rules on sections.
-use Rattle.std.specs.Prelude.{ℕ, ◌+◌, ◌*◌, Bool, cond, not, List, [], ◌∷◌, Some, None, Option, ◌==◌, nat_le, nat_lt}
+use Rattle.std.specs.Prelude.{ℕ, ◌+◌, ◌*◌, cond, List, [], ◌∷◌, Some, None, Option, ◌==◌, nat_le, nat_lt}
 use Rattle.layout.specs.Kinds.{kind_number}
 use Rattle.layout.specs.Refusals.{Refusal, refusal}
 use Rattle.features.specs.declared.BtfFeature.TheVariants as feature

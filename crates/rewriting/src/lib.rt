@@ -1,1 +1,3 @@
+#![tactic(auto)]
+
 // What a rewriting makes of a table, and what is proved of it. No code rewrites yet.

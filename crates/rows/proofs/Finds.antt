@@ -1,8 +1,8 @@
 -- The search, one row at a time.
-use Rattle.std.proofs.Common.{◌≡◌, ℕ, ◌+◌, ◌<◌, ◌≤◌, List, [], ◌∷◌, map, length, get_or, drop, None, sym, ap, ◌∙◌, arith}
+use Rattle.std.proofs.Common.{◌≡◌, ℕ, ◌+◌, ◌<◌, ◌≤◌, List, map, length, get_or, drop, None, ap, ◌∙◌}
 use lib.ListN.{length-map}
 use Rattle.std.proofs.lemmas.List.{at_drop_more, at_drop_all}
-use Rattle.layout.specs.Refusals.{Answer, refused, refusal}
+use Rattle.layout.specs.Refusals.{refused, refusal}
 use Rattle.layout.specs.declared.kind.BtfKind.{BtfKind}
 use Rattle.elements.specs.declared.Element.{Element}
 use Rattle.meaning.specs.Table.{void}

@@ -1,22 +1,21 @@
 -- Rows, elements and names that are looked up.
-use Rattle.std.proofs.Common.{◌≡◌, ℕ, ◌+◌, ◌-◌, ◌<◌, ◌≤◌, min, Bool, true, false, cond, ltb, List, [], ◌∷◌, map, length, get_or, take, drop, Some, None, Option, sym, refl, ap, ◌∙◌, ⊎_elim, arith, length-drop, length-take}
+use Rattle.std.proofs.Common.{◌≡◌, ℕ, ◌+◌, ◌-◌, ◌<◌, ◌≤◌, min, cond, ltb, List, [], ◌∷◌, map, length, get_or, take, drop, Some, None, Option, sym, refl, ap, ◌∙◌, ⊎_elim, arith, length-drop}
 use lib.ListN.{length-map}
 use Rattle.std.specs.List.{prefix_len}
-use Rattle.std.proofs.lemmas.List.{get_or-map, get_or-take, take_all, drop_all, take_rest}
+use Rattle.std.proofs.lemmas.List.{get_or-map, get_or-take, take_all, drop_all}
 use Rattle.std.proofs.lemmas.Bool.{lt-ltb, le-ltb, cond-true, cond-false, cases_lt}
 use Rattle.layout.specs.Info.{kind_of, elements_of}
 use Rattle.layout.specs.Kinds.{element_words}
-use Rattle.layout.specs.Refusals.{Answer, accepted, refused, refusal}
+use Rattle.layout.specs.Refusals.{accepted, refused, refusal}
 use Rattle.layout.specs.declared.kind.BtfKind.{BtfKind}
 use Rattle.layout.specs.declared.kind.BtfKind.TheVariants.{Unknown, Int, Ptr, Array, Struct, Union, Enum, Fwd, Typedef, Volatile, Const, Restrict, Func, FuncProto, Var, DataSec, Float, DeclTag, TypeTag, Enum64}
-use Rattle.elements.specs.declared.BtfElement.{BtfElement}
 use Rattle.elements.specs.declared.Element.{Element}
 use Rattle.elements.specs.Typed.{typed}
-use Rattle.meaning.specs.Table.{Decl, void}
+use Rattle.meaning.specs.Table.{void}
 use Rattle.meaning.specs.Adding.{named}
 use Rattle.meaning.specs.Questions.{decl_at, string_from, string_at, name_or, element_of}
 use Rattle.rows.specs.declared.row.TypeRow.{TypeRow}
-use Rattle.rows.specs.Rows.{decl_of, row_tail, kept_words}
+use Rattle.rows.specs.Rows.{decl_of, kept_words}
 
 -- an id that a row has, and one that none has
 module _ {A : Type 0} (rows : List TypeRow) (es : List Element) (id : ℕ) (x y : A) where

@@ -1,5 +1,5 @@
 -- A walk over rows, one declaration at a time.
-use Rattle.std.proofs.Common.{◌≡◌, ℕ, ◌+◌, ◌-◌, ◌<◌, ◌≤◌, List, map, length, get_or, Some, None, Option, sym, refl, ap, ◌∙◌, arith}
+use Rattle.std.proofs.Common.{◌≡◌, ℕ, ◌+◌, ◌-◌, ◌<◌, ◌≤◌, List, map, length, get_or, Some, None, Option, sym, ap, ◌∙◌, arith}
 use lib.ListN.{length-map}
 use Rattle.layout.specs.Refusals.{Answer, Refusal, accepted, refused, refusal}
 use Rattle.elements.specs.declared.Element.{Element}

@@ -1,5 +1,5 @@
 -- What the steps of the walks and of the search say.
-use Rattle.std.specs.Prelude.{ℕ, Bool, true, false, cond}
+use Rattle.std.specs.Prelude.{ℕ, Bool, cond}
 use Rattle.layout.specs.Refusals.{said, Answer, accepted, refused}
 use Rattle.meaning.specs.Questions.{Move, onward, ends, stuck, product}
 use Rattle.rows.specs.declared.walking.Step.{Step}

@@ -1,4 +1,6 @@
 // Rows of declarations, and the questions to them.
+#![tactic(auto)]
+
 mod asking;
 mod row;
 mod text;

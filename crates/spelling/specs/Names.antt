@@ -1,5 +1,5 @@
 -- A name that is spelled anew behind the strings.
-use Rattle.std.specs.Prelude.{ℕ, ◌+◌, Bool, cond, not, ◌&&◌, List, [], ◌∷◌, ◌++◌, map, length, take, drop, Some, None, Option, nat_le, nat_lt}
+use Rattle.std.specs.Prelude.{ℕ, ◌+◌, Bool, not, ◌&&◌, List, [], ◌∷◌, ◌++◌, map, length, take, drop, nat_le, nat_lt}
 use Rattle.std.specs.Str.{bytes_eq}
 use Rattle.meaning.specs.Adding.{over}
 

@@ -1,4 +1,6 @@
 // How a rewriting spells names anew.
+#![tactic(auto)]
+
 mod bytes;
 mod params;
 

@@ -1,4 +1,4 @@
-use Rattle.std.proofs.Common.{[], ◌∷◌, take, sym, refl, ap, ◌∙◌}
+use Rattle.std.proofs.Common.{[], take, sym, refl, ap, ◌∙◌}
 use Rattle.layout.specs.Kinds.{element_words}
 use Rattle.layout.specs.Refusals.{fault_said}
 use Rattle.elements.specs.declared.Element.{Element}

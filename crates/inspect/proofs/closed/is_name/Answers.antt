@@ -1,4 +1,4 @@
-use Rattle.std.proofs.Common.{◌≡◌, ◌-◌, ltb, List, length, take, drop, sym, ap, ◌∙◌}
+use Rattle.std.proofs.Common.{◌-◌, ltb, length, take, drop, sym, ap, ◌∙◌}
 use Rattle.std.proofs.lemmas.List.{take_rest}
 use Rattle.std.specs.List.{prefix_len}
 use Rattle.meaning.specs.Adding.{named}

@@ -1,4 +1,4 @@
-use Rattle.std.proofs.Common.{◌≤◌, length, drop, ap, ◌∙◌, arith, length-take}
+use Rattle.std.proofs.Common.{length, drop, ap, arith, length-take}
 use Rattle.layout.specs.Info.{elements_of}
 use Rattle.inspect.proofs.Faults.{few_elements}
 use Rattle.inspect.proofs.closed.open_at.Goals as goal

@@ -1,4 +1,4 @@
-use Rattle.std.proofs.Common.{eqb, [], get_or, sym, refl, ap, ◌∙◌}
+use Rattle.std.proofs.Common.{[], get_or, sym, refl, ap, ◌∙◌}
 use Rattle.layout.specs.Kinds.{kind_number}
 use Rattle.std.proofs.lemmas.Bool.{eq-eqb, ne_eqb}
 use Rattle.meaning.specs.Table.{void}

@@ -1,6 +1,6 @@
-use Rattle.std.proofs.Common.{◌≡◌, map, length, take, drop, sym, refl, ap, ◌∙◌, arith, length-take}
+use Rattle.std.proofs.Common.{map, length, take, drop, sym, ap, ◌∙◌, arith, length-take}
 use Rattle.layout.specs.Info.{elements_of}
-use Rattle.rewriting.specs.Sections.{each_fault, entry_fault, member_fault}
+use Rattle.rewriting.specs.Sections.{each_fault, entry_fault}
 use Rattle.inspect.specs.Faults.{fixup_fault}
 use Rattle.rows.specs.Rows.{decl_of}
 use Rattle.inspect.specs.Listed.{request_of, job_of}

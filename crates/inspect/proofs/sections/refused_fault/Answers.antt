@@ -1,4 +1,4 @@
-use Rattle.std.proofs.Common.{◌≡◌, true, map, length, take, drop, sym, refl, ap, ◌∙◌, arith, length-take}
+use Rattle.std.proofs.Common.{true, map, length, take, drop, ap, ◌∙◌, arith, length-take}
 use Rattle.layout.specs.Info.{elements_of}
 use Rattle.rewriting.specs.Sections.{each_fault, member_fault}
 use Rattle.inspect.proofs.Faults.{few_elements}

@@ -1,5 +1,5 @@
-use Rattle.std.proofs.Common.{◌≡◌, ◌<◌, ◌≤◌, List, [], length, get_or, take, drop, ap, ◌∙◌, subst}
-use Rattle.layout.specs.Info.{elements_of, kind_of}
+use Rattle.std.proofs.Common.{◌<◌, ◌≤◌, List, [], length, get_or, ap, ◌∙◌, subst}
+use Rattle.layout.specs.Info.{kind_of}
 use Rattle.elements.specs.Typed.{typed}
 use Rattle.elements.specs.declared.Element.{Element}
 use Rattle.rows.proofs.Lookups.{element_found, element_missing}

@@ -1,4 +1,4 @@
-use Rattle.std.proofs.Common.{◌-◌, min, length, ap, ◌∙◌, arith}
+use Rattle.std.proofs.Common.{arith}
 use Rattle.layout.specs.Info.{elements_of}
 use Rattle.rows.proofs.Lookups.{part_cut}
 use Rattle.rows.proofs.asking.row_tail.Goals as goal

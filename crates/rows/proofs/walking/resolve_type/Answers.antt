@@ -1,4 +1,4 @@
-use Rattle.std.proofs.Common.{◌≡◌, ℕ, ◌^◌, ◌<◌, Bool, true, false, cond, List, [], map, get_or, Some, None, Option, sym, refl, ap, ◌∙◌, arith}
+use Rattle.std.proofs.Common.{◌≡◌, ℕ, Bool, true, false, cond, [], Some, None, Option, sym, refl, ap, ◌∙◌, arith}
 use Rattle.meaning.specs.Questions.{resolving, onward, ends, Move}
 use Rattle.rows.specs.declared.row.TypeRow.{TypeRow}
 use Rattle.rows.proofs.Paths.{path_over, path_missing, path_ends, path_onward}

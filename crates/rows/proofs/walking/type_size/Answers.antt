@@ -1,8 +1,7 @@
-use Rattle.std.proofs.Common.{◌≡◌, ℕ, ◌^◌, ◌<◌, List, [], map, sym, ap, ◌∙◌, arith}
+use Rattle.std.proofs.Common.{[], sym, arith}
 use Rattle.layout.specs.Kinds.{pointer_bytes}
 use Rattle.layout.specs.Refusals.{said}
-use Rattle.elements.specs.declared.Element.{Element}
-use Rattle.meaning.specs.Questions.{measuring, type_size}
+use Rattle.meaning.specs.Questions.{measuring}
 use Rattle.rows.specs.declared.row.TypeRow.{TypeRow}
 use Rattle.rows.proofs.Paths.{path_over, path_missing, path_ends, path_stuck, path_onward}
 use Rattle.rows.proofs.walking.type_size.Goals as goal

@@ -1,4 +1,4 @@
-use Rattle.std.proofs.Common.{◌≡◌, ◌+◌, [], decimal, sym, refl, ap, ◌∙◌, arith}
+use Rattle.std.proofs.Common.{◌+◌, [], decimal, sym, refl, ap, arith}
 use Rattle.std.proofs.lemmas.List.{append-nil}
 use Rattle.meaning.proofs.Over.{over_none}
 use Rattle.spelling.proofs.Decimals.{digit_place, digit_more, digit_last}
