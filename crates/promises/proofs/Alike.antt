@@ -1,18 +1,17 @@
 -- Tables with equal declarations and equal strings are rewritten alike.
-use Rattle.std.proofs.Common.{◌≡◌, ℕ, ◌+◌, ◌<◌, ◌≤◌, Bool, true, false, cond, not, ◌&&◌, ltb, leb, List, [], ◌∷◌, ◌++◌, length, sym, refl, ap, ◌∙◌, subst, arith, length-append}
-use mathlib.Core.Path.{fun_ext}
-use Rattle.std.proofs.lemmas.Bool.{and_parts, and_from, ltb-true, lt-ltb, leb-true, le-leb, cond-false, not_from_true, cases_Bool}
+use Rattle.std.proofs.Common.{◌≡◌, ℕ, ◌+◌, true, false, not, ◌++◌, length, sym, ap, ◌∙◌, arith, length-append}
+use Rattle.std.proofs.lemmas.Bool.{and_parts, and_from, ltb-true, lt-ltb, leb-true, le-leb, cond-false, not_from_true}
 use Rattle.order.specs.Order.{Order}
-use Rattle.layout.specs.Refusals.{Answer, accepted, refused}
+use Rattle.layout.specs.Refusals.{accepted, refused}
 use Rattle.meaning.specs.Table.{Table, no_table, holds, text}
 use Rattle.meaning.specs.File.{file, header, type_part, type_bytes}
 use Rattle.meaning.proofs.Over.{take_over, length_over}
-use Rattle.rewriting.specs.Requests.{Request, Job}
+use Rattle.rewriting.specs.Requests.{Request}
 use Rattle.rewriting.specs.Rules.{State, begun}
-use Rattle.rewriting.specs.Rewriting.{Tallies, tallied, job, ended, with_rewritten, rewrite}
-use Rattle.promises.specs.Promises.{encoding, SameRequest, RewrittenAlike}
+use Rattle.rewriting.specs.Rewriting.{tallied, job, ended, with_rewritten}
+use Rattle.promises.specs.Lasting.{encoding, SameRequest, RewrittenAlike}
 use Rattle.promises.proofs.States.{length_turns}
-use Rattle.promises.proofs.Passed.{Passed, Roomy, room_passed, Accepted, when_accepted}
+use Rattle.promises.proofs.Passed.{Passed, room_passed, when_accepted}
 use Rattle.promises.proofs.Whole.{bytes_length}
 
 same_request : (p q : Request) → SameRequest p q → p ≡ q

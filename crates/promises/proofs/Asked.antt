@@ -4,7 +4,7 @@ use Rattle.std.proofs.lemmas.Bool.{cond-true, not_from_false}
 use Rattle.layout.specs.Refusals.{Answer, refused}
 use Rattle.meaning.specs.Questions.{asked_of}
 use Rattle.meaning.specs.Table.{Table, holds, no_table, text}
-use Rattle.promises.specs.Calls.{Question, string_of, head_of, element_of, name_of, id_of, end_of, size_of, Reply, bytes, head, element, id, walked, ask}
+use Rattle.promises.specs.Calls.{Question, string_of, head_of, element_of, name_of, id_of, end_of, size_of, bytes, head, element, id, walked, ask}
 
 pub same_answers : (t u : Table) → holds t ≡ true → holds u ≡ true → t.decls ≡ u.decls → text t ≡ text u → (q : Question) → ask t q ≡ ask u q
 same_answers t u h k d x (string_of offset) = cc

@@ -1,33 +1,32 @@
 -- Every rule is done to every declaration.
-use Rattle.std.proofs.Common.{◌≡◌, ℕ, zero, suc, ◌+◌, ◌*◌, ◌^◌, ◌<◌, ◌≤◌, max, Bool, true, false, cond, not, ◌&&◌, ◌||◌, eqb, ltb, ◌⊎◌, List, [], ◌∷◌, ◌++◌, map, length, get_or, take, Some, None, codes, decimal, Option, sym, refl, ap, ◌∙◌, subst, subst₂, inl, inr, arith, length-append}
+use Rattle.std.proofs.Common.{◌≡◌, ℕ, zero, suc, ◌+◌, ◌*◌, ◌<◌, ◌≤◌, max, Bool, true, false, cond, not, ◌||◌, eqb, ltb, ◌⊎◌, List, [], ◌∷◌, map, length, get_or, take, Some, None, codes, Option, sym, refl, ap, ◌∙◌, subst, subst₂, inl, inr, arith, length-append}
 use lib.ListN.{length-map}
 use Rattle.std.specs.List.{AllByRecursion as All}
-use Rattle.std.specs.Str.{bytes_eq}
 use Rattle.std.proofs.ByRecursion.{All-get_or}
 use Rattle.std.proofs.lemmas.Slice.Eq.{bytes_eq-Decides}
 use Rattle.std.proofs.lemmas.List.{get_or_append_left, get_or-append_right, get_or-map, get_or_past, take_at, nil_from_length}
-use Rattle.std.proofs.lemmas.Bool.{cond_both, cond-true, cond-false, cases_Bool, cases_lt, ltb-true, ltb-false, lt-ltb, le-ltb, eqb-true, eqb-false, eq-eqb, ne_eqb, and_parts, and_from, and_cases, or_cases, or_parts, or_left, or_right, not-true, not-false, not_from_true, not_from_false, true≢false, false≢true}
+use Rattle.std.proofs.lemmas.Bool.{cond_both, cond-true, cond-false, cases_Bool, cases_lt, ltb-true, lt-ltb, le-ltb, eqb-true, eqb-false, eq-eqb, ne_eqb, and_parts, and_from, and_cases, or_cases, or_parts, or_left, or_right, not-true, not-false, not_from_true, not_from_false, true≢false, false≢true}
 use Rattle.layout.specs.declared.kind.BtfKind.{BtfKind}
 use Rattle.layout.specs.declared.kind.BtfKind.TheVariants.{Unknown, Int, Ptr, Array, Struct, Union, Enum, Fwd, Typedef, Volatile, Const, Restrict, Func, FuncProto, Var, DataSec, Float, DeclTag, TypeTag, Enum64}
 use Rattle.layout.specs.Kinds.{extra_words}
 use Rattle.layout.specs.Info.{low_of, flag_of}
 use Rattle.features.specs.declared.BtfFeature.TheVariants as feature
-use Rattle.meaning.specs.Table.{Decl, Table, void, text, holds}
+use Rattle.meaning.specs.Table.{Decl, Table, void, text}
 use Rattle.meaning.specs.Questions.{decl_kind, decl_at, string_from}
-use Rattle.rewriting.specs.Requests.{Request, Job, granted, number_of, section_number, symbol_number, or_zero}
-use Rattle.rewriting.specs.Rules.{State, begun, next_offset, with_string, with_filler, counts_filled, with_placeholder, with_renamed, renamed, changes, name_at, or_empty, dotted, underscored, one_byte_int, kept, placeholder_id, filler_id, entry_id, entry_offset, entry_size, entry_end, at_this_moment, as_member, spanned, as_struct, section_size, fills, var_linkage, mended_entry, filled_section, mended_section, section_news, param_name, lacks_name, with_param, with_params, named_param, named_params, named_proto, is_builtin, becomes_static, linked_func, nameless, unsigned, as_union, stand_in, news, turn, turns}
-use Rattle.rewriting.specs.Rewriting.{Tallies, tallied, one_if_made, job, ended, with_rewritten, rewrite}
-use Rattle.promises.specs.Rewritten.{Shows, OneByteInt, OtherwiseSame, NewInt, NewFiller, Respelled, entry_reach, BecameStruct, EntryMended, Sized, Mended, NeedsName, ParametersNamed, Builtin, MadeStatic, builtin, refused, Linked, BecameUnion, ByFeature, Rule, Rewritten}
-use Rattle.promises.specs.Promises.{Reached, fresh, table, RulesDone}
+use Rattle.rewriting.specs.Requests.{Request, Job, granted, section_number, symbol_number, or_zero}
+use Rattle.rewriting.specs.Rules.{State, begun, next_offset, with_string, with_filler, counts_filled, with_placeholder, with_renamed, renamed, changes, name_at, or_empty, dotted, underscored, one_byte_int, kept, placeholder_id, filler_id, entry_id, entry_offset, entry_size, entry_end, at_this_moment, as_member, spanned, as_struct, section_size, fills, var_linkage, mended_entry, filled_section, mended_section, section_news, param_name, lacks_name, with_param, with_params, named_params, named_proto, is_builtin, becomes_static, linked_func, unsigned, as_union, stand_in, news, turn}
+use Rattle.rewriting.specs.Rewriting.{Tallies, tallied, one_if_made, job, ended, with_rewritten}
+use Rattle.promises.specs.Rewritten.{Shows, OneByteInt, NewInt, NewFiller, Respelled, entry_reach, BecameStruct, EntryMended, Sized, Mended, NeedsName, ParametersNamed, Builtin, MadeStatic, builtin, refused, Linked, BecameUnion, ByFeature, Rule, Rewritten}
+use Rattle.promises.specs.Acts.{last_table}
+use Rattle.promises.specs.Lasting.{RulesDone}
 use Rattle.promises.proofs.Parts.{cond_both₂}
 use Rattle.promises.proofs.Sound.{SoundTable}
-use Rattle.promises.proofs.Kept.{kind_kept, low_kept, flag_kept}
-use Rattle.promises.proofs.States.{Begins, begins_on, begins_more, begins_same, Later, later_on, later_renamed, later_filler, later_param, later_params, later_stands, later_turn, length_turns}
-use Rattle.promises.proofs.Passed.{Passed, Accepted, when_accepted, Closed, closed_passed, Found, EntryPassed, SectionPassed, section_passed, section_at}
+use Rattle.promises.proofs.Kept.{kind_kept, flag_kept}
+use Rattle.promises.proofs.States.{Begins, begins_on, begins_same, Later, later_on, later_filler, later_params, later_stands, later_turn, length_turns}
+use Rattle.promises.proofs.Passed.{Passed, when_accepted, Closed, closed_passed, EntryPassed, SectionPassed, section_passed, section_at}
 use Rattle.promises.proofs.Standing.{length_named}
-use Rattle.promises.proofs.Stood.{Stood}
-use Rattle.promises.proofs.Steps.{sound_made, sound_run}
-use Rattle.promises.proofs.Whole.{bytes_length, Ended, all_ended}
+use Rattle.promises.proofs.Steps.{sound_last}
+use Rattle.promises.proofs.Whole.{bytes_length, all_ended}
 use Rattle.promises.proofs.Alike.{text_rewritten}
 use Rattle.promises.proofs.Stay.{few_at, old_at, old_in_front}
 use Rattle.promises.proofs.Strings.{Nonzero, string_kept, name_nonzero, mapped_nonzero, param_nonzero}
@@ -495,8 +494,8 @@ module _ (t : Table) (q : Request) (passed : Passed t q) (sound : SoundTable t) 
       }
 
 pub rules_done : RulesDone
-rules_done r q n e =
-    let t = table r in
-    let sound : SoundTable t = sound_run (fresh r) r.calls (sound_made r.decl_room r.element_room r.area) in
+rules_done history q n e =
+    let t = last_table history in
+    let sound : SoundTable t = sound_last history in
     let is = when_accepted t q n e in
     subst₂ (λ (v : Table) (m : Tallies). Rewritten q t v m) (sym is.later_is) (sym is.tallies) (rewritten t q is.passed sound)

@@ -1,18 +1,19 @@
 -- Equal files come from equal tables.
-use Rattle.std.proofs.Common.{◌≡◌, ℕ, ◌+◌, ◌*◌, ◌≤◌, Bool, true, false, cond, not, ltb, List, [], ◌∷◌, ◌++◌, length, sum_by, sym, refl, ap, ◌∙◌, subst, append_assoc, arith}
+use Rattle.std.proofs.Common.{◌≡◌, ℕ, ◌*◌, Bool, true, false, ltb, List, [], ◌∷◌, ◌++◌, length, sym, refl, ap, ◌∙◌, subst, append_assoc, arith}
 use Rattle.std.specs.List.{AllByRecursion as All}
-use Rattle.std.proofs.lemmas.List.Sums.{sum_by-cons}
 use Rattle.std.proofs.lemmas.Bool.{false≢true, and_parts}
 use Rattle.order.specs.Order.{Order}
 use Rattle.layout.specs.Refusals.{accepted}
 use Rattle.meaning.specs.Table.{Decl, Table, void, holds, text}
 use Rattle.meaning.specs.File.{type_words, type_bytes, coded, header, file}
 use Rattle.promises.specs.Calls.{Word}
-use Rattle.promises.specs.Promises.{Reached, fresh, table, encoding, RewrittenAlike, OneFileOneTable}
+use Rattle.promises.specs.Promises.{Reached, fresh, table, OneFileOneTable}
+use Rattle.promises.specs.Acts.{last_table}
+use Rattle.promises.specs.Lasting.{encoding, RewrittenAlike, OneEncodingOneTable}
 use Rattle.promises.specs.Calls.{Question, ask}
 use Rattle.promises.proofs.Parts.{same_parts}
 use Rattle.promises.proofs.Sound.{Grown, SoundTable}
-use Rattle.promises.proofs.Steps.{sound_made, sound_run}
+use Rattle.promises.proofs.Steps.{sound_made, sound_run, sound_last}
 use Rattle.promises.proofs.Words.{word_bytes, type_words_fit, types_stated}
 use Rattle.promises.proofs.Told.{same_decls}
 use Rattle.promises.proofs.Coded.{length_coded, same_coded, length_header, same_types}
@@ -75,6 +76,13 @@ module _ (o : Order) (t u : Table) (s : SoundTable t) (r : SoundTable u) where
   alike false false h k same = (no_answers t u h k, nothing_rewritten t u h, λ e. absurd (let z : ◌≡◌ {A = ℕ} 0 1 = cc in omega arith))
 
 pub one_file_one_table : OneFileOneTable
-one_file_one_table o r s same =
+one_file_one_table o r s h k same =
+    let t = table r in
+    let u = table s in
     let sound : (v : Reached) → SoundTable (table v) = λ v. sound_run (fresh v) v.calls (sound_made v.decl_room v.element_room v.area) in
-    alike o (table r) (table s) (sound r) (sound s) (holds (table r)) (holds (table s)) refl refl same
+    let equal = same_file o t u (sound r) (sound s) h k same in
+    (equal.0, equal.1, same_answers t u h k equal.0 equal.1)
+
+pub one_encoding_one_table : OneEncodingOneTable
+one_encoding_one_table o g h same =
+    alike o (last_table g) (last_table h) (sound_last g) (sound_last h) (holds (last_table g)) (holds (last_table h)) refl refl same

@@ -1,18 +1,18 @@
 -- A declaration that a rule makes is sound, and shows what it was made of.
-use Rattle.std.proofs.Common.{◌≡◌, ℕ, ◌/◌, ◌^◌, ◌<◌, ◌≤◌, Bool, true, false, eqb, ◌⊎◌, List, [], ◌∷◌, length, take, refl, inl, inr, arith}
+use Rattle.std.proofs.Common.{◌≡◌, ℕ, ◌<◌, ◌≤◌, true, false, eqb, ◌⊎◌, List, [], ◌∷◌, length, refl, inl, inr, arith}
 use Rattle.std.specs.List.{AllByRecursion as All}
 use Rattle.std.proofs.lemmas.List.{nil_from_length}
 use Rattle.std.proofs.lemmas.Bool.{eqb-true, eq-eqb, ne_eqb}
 use Rattle.layout.specs.declared.kind.BtfKind.{BtfKind}
-use Rattle.layout.specs.Kinds.{kind_number, extra_words, element_words}
-use Rattle.layout.specs.Info.{info_word, low_of, flag_of}
+use Rattle.layout.specs.Kinds.{kind_number, element_words}
+use Rattle.layout.specs.Info.{low_of, flag_of}
 use Rattle.layout.specs.Heads.{low_bits, declared}
 use Rattle.meaning.specs.Questions.{decl_kind}
 use Rattle.rewriting.specs.Rules.{kept}
 use Rattle.promises.specs.Calls.{Word, Given, Elements}
 use Rattle.promises.proofs.Infos.{kind_of_info, low_of_info, kind_small}
 use Rattle.promises.proofs.Sound.{Sound}
-use Rattle.promises.proofs.Declared.{Fine, sound_declared, low_small}
+use Rattle.promises.proofs.Declared.{sound_declared, low_small}
 
 none_serves : (k : BtfKind) → false ≡ true → element_words k ≡ 1
 none_serves k e = cc

@@ -1,5 +1,5 @@
 -- The placeholder and the filler are there, under their names.
-use Rattle.std.proofs.Common.{◌≡◌, ℕ, ◌+◌, ◌<◌, ◌≤◌, Bool, true, false, cond, List, [], ◌∷◌, ◌++◌, length, get_or, Some, None, Option, sym, refl, ap, ◌∙◌, subst, append_assoc, arith, length-append}
+use Rattle.std.proofs.Common.{◌≡◌, ℕ, ◌+◌, ◌<◌, List, [], ◌∷◌, ◌++◌, length, get_or, Some, None, Option, sym, refl, ap, ◌∙◌, append_assoc, arith, length-append}
 use Rattle.std.specs.List.{AllByRecursion as All}
 use Rattle.std.proofs.lemmas.List.{get_or_append_left, get_or-append-add, get_or_at, get_or_push, length_push}
 use Rattle.std.proofs.lemmas.Bool.{cond_both}
@@ -9,7 +9,7 @@ use Rattle.features.specs.declared.BtfFeature.TheVariants as feature
 use Rattle.meaning.specs.Table.{Decl, void}
 use Rattle.meaning.specs.Questions.{decl_kind, string_from}
 use Rattle.rewriting.specs.Requests.{Job, granted}
-use Rattle.rewriting.specs.Rules.{State, begun, next_offset, next_id, with_string, with_placeholder, with_filler, counts_filled, with_renamed, changes, dotted, underscored, one_byte_int, kept, placeholder_name, filler_type_name, filler_name, id_or, fills, with_param, with_params, lacks_name, param_name, stand_in, news, stands, turn, turns}
+use Rattle.rewriting.specs.Rules.{State, begun, next_offset, next_id, with_string, with_placeholder, with_filler, counts_filled, with_renamed, changes, dotted, underscored, one_byte_int, kept, placeholder_name, filler_type_name, filler_name, id_or, fills, with_param, with_params, lacks_name, param_name, stand_in, news, turn, turns}
 use Rattle.promises.proofs.States.{Begins, begins_length, begins_more, Later, later_string, later_placeholder, later_filler, later_stands}
 use Rattle.promises.proofs.Strings.{Nonzero, string_added, string_kept}
 

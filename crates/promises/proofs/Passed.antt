@@ -1,14 +1,14 @@
 -- What holds where the checks of a rewriting find no fault.
-use Rattle.std.proofs.Common.{◌≡◌, ℕ, zero, suc, ◌+◌, ◌*◌, ◌<◌, ◌≤◌, min, Bool, true, false, cond, not, eqb, ltb, leb, ◌⊎◌, List, [], ◌∷◌, length, get_or, Some, None, Option, sym, refl, ap, ◌∙◌, subst, inl, inr, arith}
+use Rattle.std.proofs.Common.{◌≡◌, ℕ, zero, suc, ◌+◌, ◌*◌, ◌<◌, ◌≤◌, Bool, true, false, cond, not, eqb, ltb, leb, List, [], ◌∷◌, length, Some, None, Option, sym, refl, ap, ◌∙◌, subst, inl, inr, arith}
 use Rattle.std.specs.List.{AllByRecursion as All}
-use Rattle.std.proofs.lemmas.Bool.{cond_both, cond-true, cond-false, not-false, ltb-true, ltb-false, leb-true, eqb-true, eqb-false, cases_Bool, eq-eqb, ne_eqb}
+use Rattle.std.proofs.lemmas.Bool.{cond_both, cond-true, cond-false, not-false, ltb-true, leb-true, eqb-true, cases_Bool}
 use Rattle.std.proofs.lemmas.Bool.Decides.{nat_tests}
 use Rattle.layout.specs.declared.kind.BtfKind.{BtfKind}
 use Rattle.layout.specs.declared.kind.BtfKind.TheVariants.{Var, DataSec}
 use Rattle.layout.specs.Kinds.{kind_number, kind_at}
-use Rattle.layout.specs.Refusals.{Refusal, Answer, accepted, refused, refusal}
+use Rattle.layout.specs.Refusals.{Refusal, accepted}
 use Rattle.features.specs.declared.BtfFeature.TheVariants as feature
-use Rattle.meaning.specs.Table.{Decl, Table, Outcome, void, holds, refuses, accepts, no_table, most_decls, most_elements, most_strings}
+use Rattle.meaning.specs.Table.{Decl, Table, Outcome, holds, refuses, accepts, no_table, most_decls, most_elements, most_strings}
 use Rattle.meaning.specs.Adding.{unless}
 use Rattle.meaning.specs.Questions.{decl_kind, decl_at, string_from, greatest_word}
 use Rattle.rewriting.specs.Requests.{Request, Job, granted, section_number, symbol_number}

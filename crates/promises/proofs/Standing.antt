@@ -1,24 +1,24 @@
 -- What stands in a declaration's place is sound.
-use Rattle.std.proofs.Common.{◌≡◌, ℕ, zero, suc, ◌+◌, ◌*◌, ◌^◌, ◌<◌, ◌≤◌, min, max, Bool, true, false, cond, not, eqb, ltb, leb, ◌⊎◌, List, [], ◌∷◌, ◌++◌, map, length, get_or, Some, None, Option, sym, refl, ap, ◌∙◌, subst, inl, inr, arith, length-append}
+use Rattle.std.proofs.Common.{◌≡◌, ℕ, zero, suc, ◌+◌, ◌<◌, ◌≤◌, max, Bool, true, false, cond, eqb, ltb, List, [], ◌∷◌, map, length, get_or, Some, None, Option, sym, refl, ap, ◌∙◌, subst, inl, inr, arith}
 use lib.ListN.{length-map}
 use Rattle.std.specs.List.{AllByRecursion as All}
-use Rattle.std.proofs.ByRecursion.{All-get_or, All-map, All-weaker}
-use Rattle.std.proofs.lemmas.Bool.{cond_both, cases_lt, ltb-true, ltb-false}
+use Rattle.std.proofs.ByRecursion.{All-map, All-weaker}
+use Rattle.std.proofs.lemmas.Bool.{cond_both}
 use Rattle.std.proofs.lemmas.Bool.Decides.{nat_tests}
 use Rattle.layout.specs.declared.kind.BtfKind.{BtfKind}
 use Rattle.layout.specs.declared.kind.BtfKind.TheVariants.{Unknown, Int, Ptr, Array, Struct, Union, Enum, Fwd, Typedef, Volatile, Const, Restrict, Func, FuncProto, Var, DataSec, Float, DeclTag, TypeTag, Enum64}
 use Rattle.layout.specs.Kinds.{kind_number, element_words}
-use Rattle.layout.specs.Info.{low_of, flag_of}
+use Rattle.layout.specs.Info.{flag_of}
 use Rattle.features.specs.declared.BtfFeature.TheVariants as feature
-use Rattle.meaning.specs.Table.{Decl, void, most_decls, most_strings}
+use Rattle.meaning.specs.Table.{Decl, most_decls, most_strings}
 use Rattle.meaning.specs.Questions.{decl_kind, decl_at, greatest_word}
 use Rattle.rewriting.specs.Requests.{Job, granted, section_number, symbol_number, or_zero}
-use Rattle.rewriting.specs.Rules.{State, next_offset, next_id, with_string, with_placeholder, with_filler, with_renamed, renamed, changes, name_at, dotted, underscored, kept, one_byte_int, placeholder_id, filler_id, id_or, entry_id, entry_offset, entry_size, entry_end, at_this_moment, as_member, spanned, as_struct, section_size, fills, var_linkage, mended_entry, filled_section, mended_section, section_news, with_param, with_params, lacks_name, param_name, named_param, named_params, named_proto, becomes_static, linked_func, nameless, unsigned, as_union, stand_in, news}
+use Rattle.rewriting.specs.Rules.{State, next_offset, next_id, renamed, changes, name_at, dotted, underscored, kept, one_byte_int, placeholder_id, filler_id, id_or, entry_id, entry_end, at_this_moment, as_member, spanned, as_struct, section_size, fills, var_linkage, mended_entry, filled_section, mended_section, with_param, with_params, lacks_name, named_params, named_proto, becomes_static, as_union, stand_in, news}
 use Rattle.promises.specs.Calls.{Word}
 use Rattle.promises.proofs.Sound.{Sound}
 use Rattle.promises.proofs.Declared.{word_at}
-use Rattle.promises.proofs.Kept.{sound_kept, kind_kept}
-use Rattle.promises.proofs.States.{Later, begins_length, later_renamed, later_filler, later_section, later_param, later_params}
+use Rattle.promises.proofs.Kept.{sound_kept}
+use Rattle.promises.proofs.States.{Later, begins_length, later_param, later_params}
 use Rattle.promises.proofs.Passed.{Found, EntryPassed, MemberPassed, SectionPassed}
 
 -- one thing and another of each item give a third

@@ -1,35 +1,35 @@
 -- Sizes and ends stay.
-use Rattle.std.proofs.Common.{◌≡◌, ℕ, zero, suc, ◌+◌, ◌*◌, ◌<◌, ◌≤◌, min, Bool, true, false, cond, not, ◌&&◌, eqb, ltb, leb, List, [], ◌∷◌, ◌++◌, map, length, get_or, Some, None, Option, sym, refl, ap, ◌∙◌, subst, arith, length-append}
+use Rattle.std.proofs.Common.{◌≡◌, ℕ, zero, suc, ◌+◌, ◌<◌, ◌≤◌, true, not, List, [], ◌∷◌, ◌++◌, map, length, get_or, None, sym, refl, ap, ◌∙◌, subst, arith, length-append}
 use lib.ListN.{length-map}
-use Rattle.std.specs.List.{prefix_len, AllByRecursion as All}
+use Rattle.std.specs.List.{AllByRecursion as All}
 use Rattle.std.proofs.ByRecursion.{All-get_or}
 use Rattle.std.proofs.lemmas.List.{get_or_append_left, length_push}
-use Rattle.std.proofs.lemmas.Bool.{cond_both, cond-false, false≢true, and_parts, and_from, ltb-true, ltb-false, lt-ltb, leb-true, le-leb, not_from_true}
+use Rattle.std.proofs.lemmas.Bool.{cond_both, cond-false, false≢true, and_parts, and_from, le-leb, not_from_true}
 use Rattle.layout.specs.declared.kind.BtfKind.{BtfKind}
 use Rattle.layout.specs.declared.kind.BtfKind.TheVariants.{Unknown, Int, Ptr, Array, Struct, Union, Enum, Fwd, Typedef, Volatile, Const, Restrict, Func, FuncProto, Var, DataSec, Float, DeclTag, TypeTag, Enum64}
-use Rattle.layout.specs.declared.pointer.PointerWidth.{PointerWidth}
 use Rattle.layout.specs.Kinds.{pointer_bytes}
 use Rattle.layout.specs.Info.{flag_of}
-use Rattle.layout.specs.Refusals.{Answer, accepted, refused}
+use Rattle.layout.specs.Refusals.{Answer, refused}
 use Rattle.features.specs.declared.BtfFeature.TheVariants as feature
-use Rattle.meaning.specs.Table.{Decl, Table, void, no_table, holds, most_strings}
-use Rattle.meaning.specs.Adding.{named, with_string, with_type}
-use Rattle.meaning.specs.Questions.{decl_kind, decl_at, follows, resolving, Sizing, points, sized, passes, sizing, size_step, measuring, most_reads, resolve_type, type_size, asked_of}
+use Rattle.meaning.specs.Table.{Decl, Table, void, no_table, holds}
+use Rattle.meaning.specs.Adding.{with_string}
+use Rattle.meaning.specs.Questions.{decl_kind, decl_at, follows, resolving, Sizing, points, sized, passes, sizing, size_step, measuring, most_reads, asked_of}
 use Rattle.meaning.proofs.Over.{length_over}
 use Rattle.rewriting.specs.Requests.{Request, Job, granted}
 use Rattle.rewriting.specs.Rules.{State, begun, kept, placeholder_id, as_union, nameless, stand_in}
-use Rattle.rewriting.specs.Rewriting.{Tallies, job, ended, with_rewritten, rewrite}
-use Rattle.promises.specs.Calls.{Call, adds_string, adds_type, asks, rewrites, encodes, step, run, Reply, walked, ask, end_of, size_of}
+use Rattle.rewriting.specs.Rewriting.{job, ended, with_rewritten}
+use Rattle.promises.specs.Calls.{Call, adds_string, adds_type, asks, encodes, step, walked}
 use Rattle.promises.specs.Kinds.{data_kind}
-use Rattle.promises.specs.Promises.{Reached, fresh, table, SizesAndEndsStay}
+use Rattle.promises.specs.Acts.{Act, calls, rewrites, left_by, left_by_all, last_table}
+use Rattle.promises.specs.Lasting.{SizesAndEndsStay}
 use Rattle.promises.proofs.Sound.{Sound, Grown, SoundTable}
 use Rattle.promises.proofs.Kept.{kind_kept}
 use Rattle.promises.proofs.States.{length_turns}
-use Rattle.promises.proofs.Passed.{Passed, by_rewriting, Accepted, when_accepted, Closed, closed_passed}
+use Rattle.promises.proofs.Passed.{by_rewriting, when_accepted, Closed, closed_passed}
 use Rattle.promises.proofs.Standing.{few_elements}
 use Rattle.promises.proofs.Stood.{Stood, stood}
-use Rattle.promises.proofs.Steady.{Data, SameWalk, same_walk, Keeps, keeps_same, keeps_on, walk_steady, resolving_closed, measuring_closed}
-use Rattle.promises.proofs.Steps.{by_outcome, by_string, sound_made, sound_step, sound_run}
+use Rattle.promises.proofs.Steady.{SameWalk, same_walk, Keeps, keeps_same, keeps_on, walk_steady, resolving_closed, measuring_closed}
+use Rattle.promises.proofs.Steps.{by_outcome, by_string, sound_act, sound_last}
 use Rattle.promises.proofs.Alike.{held_rewritten}
 use Rattle.promises.proofs.Turning.{some_more}
 
@@ -120,12 +120,16 @@ keeps_step t (adds_string name) s = by_string t name (λ o. Keeps t.decls o.late
 keeps_step t (adds_type g es) s =
     by_outcome t g.declaration es.serving es.items (λ o. Keeps t.decls o.later.decls) (λ r. keeps_same t.decls) (λ h e e'. keeps_push t.decls _)
 keeps_step t (asks q) s = keeps_same t.decls
-keeps_step t (rewrites q) s = by_rewriting t q (λ o. Keeps t.decls o.later.decls) (λ r. keeps_same t.decls) (λ p. keeps_rewritten t q s)
 keeps_step t (encodes o buffer) s = keeps_same t.decls
 
-keeps_run : (t : Table) (cs : List Call) → SoundTable t → Keeps t.decls (run t cs).decls
-keeps_run t [] s = keeps_same t.decls
-keeps_run t (c ∷ cs) s = keeps_on t.decls (step t c).decls (run (step t c) cs).decls (keeps_step t c s) (keeps_run (step t c) cs (sound_step t c s))
+-- and every act
+keeps_act : (t : Table) (a : Act) → SoundTable t → Keeps t.decls (left_by t a).decls
+keeps_act t (calls c) s = keeps_step t c s
+keeps_act t (rewrites q) s = by_rewriting t q (λ o. Keeps t.decls o.later.decls) (λ r. keeps_same t.decls) (λ p. keeps_rewritten t q s)
+
+keeps_acts : (t : Table) (acts : List Act) → SoundTable t → Keeps t.decls (left_by_all t acts).decls
+keeps_acts t [] s = keeps_same t.decls
+keeps_acts t (a ∷ acts) s = keeps_on t.decls (left_by t a).decls (left_by_all (left_by t a) acts).decls (keeps_act t a s) (keeps_acts (left_by t a) acts (sound_act t a s))
 
 -- a table that holds something goes on holding it
 held_string : (t : Table) (name : List ℕ) → holds t ≡ true → t.strings + (length name + 1) ≤ length t.area → holds (with_string t name) ≡ true
@@ -140,25 +144,28 @@ held_step t (adds_type g es) h =
     by_outcome t g.declaration es.serving es.items (λ o. holds o.later ≡ true) (λ r. h)
     (λ h' e e'. and_from _ _ (some_more t.decls _) (and_parts _ _ h).1)
 held_step t (asks q) h = h
-held_step t (rewrites q) h = by_rewriting t q (λ o. holds o.later ≡ true) (λ r. h) (λ p. held_rewritten t q p)
 held_step t (encodes o buffer) h = h
 
-held_run : (t : Table) (cs : List Call) → holds t ≡ true → holds (run t cs) ≡ true
-held_run t [] h = h
-held_run t (c ∷ cs) h = held_run (step t c) cs (held_step t c h)
+held_act : (t : Table) (a : Act) → holds t ≡ true → holds (left_by t a) ≡ true
+held_act t (calls c) h = held_step t c h
+held_act t (rewrites q) h = by_rewriting t q (λ o. holds o.later ≡ true) (λ r. h) (λ p. held_rewritten t q p)
+
+held_acts : (t : Table) (acts : List Act) → holds t ≡ true → holds (left_by_all t acts) ≡ true
+held_acts t [] h = h
+held_acts t (a ∷ acts) h = held_acts (left_by t a) acts (held_act t a h)
 
 asked_held : {A : Type 0} (t : Table) (a : Answer A) → holds t ≡ true → asked_of t a ≡ a
 asked_held t a h = cond-false (not (holds t)) (refused no_table) a (not_from_true (holds t) h)
 
 pub sizes_and_ends_stay : SizesAndEndsStay
-sizes_and_ends_stay r q n later id e h =
-    let t = table r in
-    let u = step t (rewrites q) in
-    let v = run u later in
-    let sound : SoundTable t = sound_run (fresh r) r.calls (sound_made r.decl_room r.element_room r.area) in
+sizes_and_ends_stay history q n later id e h =
+    let t = last_table history in
+    let u = left_by t (rewrites q) in
+    let v = left_by_all u later in
+    let sound : SoundTable t = sound_last history in
     let passed = (when_accepted t q n e).passed in
-    let keeps = keeps_on t.decls u.decls v.decls (keeps_step t (rewrites q) sound) (keeps_run u later (sound_step t (rewrites q) sound)) in
-    let held = held_run u later (held_step t (rewrites q) passed.held) in
+    let keeps = keeps_on t.decls u.decls v.decls (keeps_act t (rewrites q) sound) (keeps_acts u later (sound_act t (rewrites q) sound)) in
+    let held = held_acts u later (held_act t (rewrites q) passed.held) in
     let closed = closed_passed (job t q).bytes t.decls passed.closed in
     let ids : (i : ℕ) → i < length t.decls → Closed (job t q).bytes (length t.decls) (decl_at t.decls i) = λ i p. All-get_or (Closed (job t q).bytes (length t.decls)) t.decls i void p closed in (
       λ data_only.

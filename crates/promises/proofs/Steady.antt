@@ -1,17 +1,15 @@
 -- Walks over data kinds stay as they are.
-use Rattle.std.proofs.Common.{◌≡◌, ℕ, zero, suc, ◌+◌, ◌*◌, ◌<◌, ◌≤◌, Bool, true, false, cond, eqb, ltb, leb, ◌⊎◌, List, [], ◌∷◌, length, get_or, Some, None, Option, sym, refl, ap, ◌∙◌, subst, inl, inr, arith}
+use Rattle.std.proofs.Common.{◌≡◌, ℕ, zero, suc, ◌+◌, ◌*◌, ◌<◌, ◌≤◌, true, cond, eqb, ltb, leb, List, [], ◌∷◌, length, get_or, Some, None, Option, sym, refl, ap, ◌∙◌, subst, arith}
 use Rattle.std.specs.List.{AllByRecursion as All}
-use Rattle.std.proofs.ByRecursion.{All-get_or}
-use Rattle.std.proofs.lemmas.Bool.{cond_both, cond-true, cond-false, lt-ltb, cases_Bool, false≢true}
+use Rattle.std.proofs.lemmas.Bool.{cond_both, cond-true, lt-ltb}
 use Rattle.layout.specs.declared.kind.BtfKind.{BtfKind}
 use Rattle.layout.specs.declared.kind.BtfKind.TheVariants.{Unknown, Int, Ptr, Array, Struct, Union, Enum, Fwd, Typedef, Volatile, Const, Restrict, Func, FuncProto, Var, DataSec, Float, DeclTag, TypeTag, Enum64}
-use Rattle.layout.specs.Kinds.{kind_number, kinds, Third, refers, third_word}
-use Rattle.layout.specs.Refusals.{Refusal, Answer, accepted, refused, refusal}
-use Rattle.meaning.specs.Table.{Decl, void}
-use Rattle.meaning.specs.Questions.{decl_kind, decl_at, Move, onward, ends, stuck, moved, walk, unknown, follows, resolving, Sizing, repeats, points, sized, passes, sizeless, sizing, greatest_word, product, size_step, measuring}
+use Rattle.layout.specs.Kinds.{kind_number, third_word}
+use Rattle.layout.specs.Refusals.{Refusal, accepted, refused, refusal}
+use Rattle.meaning.specs.Table.{Decl}
+use Rattle.meaning.specs.Questions.{decl_kind, decl_at, Move, onward, ends, stuck, moved, walk, follows, resolving, sizing, greatest_word, product, size_step, measuring}
 use Rattle.rewriting.specs.Closed.{own_ids, third_ids}
 use Rattle.promises.specs.Kinds.{data_kind, read_on, reads}
-use Rattle.promises.proofs.Infos.{each_kind}
 
 abbrev pub Data : Decl → Type 0
 Data d = data_kind (decl_kind d) ≡ true

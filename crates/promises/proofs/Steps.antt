@@ -1,8 +1,7 @@
 -- Each call leaves a sound table.
-use Rattle.std.proofs.Common.{◌≡◌, ℕ, ◌+◌, ◌<◌, ◌≤◌, min, Bool, true, not, ◌&&◌, ltb, List, [], ◌∷◌, ◌++◌, length, Some, None, Option, refl, inl, inr, arith}
+use Rattle.std.proofs.Common.{◌≡◌, ℕ, ◌+◌, ◌<◌, ◌≤◌, min, Bool, true, not, ◌&&◌, ltb, List, [], ◌∷◌, length, Some, None, Option, refl, inl, inr, arith}
 use Rattle.std.specs.List.{prefix_len}
 use Rattle.std.proofs.lemmas.Bool.{cond_both, not-false, cases_eq, and_parts, ltb-false}
-use Rattle.std.proofs.ByRecursion.{All-push}
 use Rattle.std.proofs.lemmas.List.{length_push}
 use Rattle.std.proofs.lemmas.Bool.Decides.{nat_tests}
 use Rattle.layout.specs.declared.kind.BtfKind.{BtfKind}
@@ -10,10 +9,11 @@ use Rattle.layout.specs.declared.declaration.Declaration.{Declaration}
 use Rattle.layout.specs.Kinds.{kind_at}
 use Rattle.layout.specs.Heads.{head_kept}
 use Rattle.layout.specs.Refusals.{Refusal}
-use Rattle.meaning.specs.Table.{Decl, Table, Outcome, made, holds, refuses, accepts, no_table, most_decls, most_elements, most_strings}
+use Rattle.meaning.specs.Table.{Table, Outcome, made, holds, refuses, accepts, no_table, most_decls, most_elements, most_strings}
 use Rattle.meaning.specs.Adding.{add_type, with_type, with_string, add_string, decl_with, named, declaration_fault, room_fault, unless}
-use Rattle.promises.specs.Calls.{Given, Elements, Call, adds_string, adds_type, asks, rewrites, encodes, step, run}
-use Rattle.promises.proofs.Sound.{Sound, Grown, grown_push, SoundTable}
+use Rattle.promises.specs.Calls.{Given, Elements, Call, adds_string, adds_type, asks, encodes, step, run}
+use Rattle.promises.specs.Acts.{Act, calls, rewrites, left_by, left_by_all, History, first_table, last_table}
+use Rattle.promises.proofs.Sound.{grown_push, SoundTable}
 use Rattle.promises.proofs.Declared.{Fine, sound_declared}
 use Rattle.promises.proofs.Words.{few_words, length_pushed}
 use Rattle.promises.proofs.Passed.{by_rewriting}
@@ -92,9 +92,23 @@ sound_step t (adds_string name) s = by_string t name (λ o. SoundTable o.later) 
 sound_step t (adds_type g es) s =
     by_outcome t g.declaration es.serving es.items (λ o. SoundTable o.later) (λ r. s) (λ h e e'. sound_with_type t g es s h e e')
 sound_step t (asks q) s = s
-sound_step t (rewrites q) s = by_rewriting t q (λ o. SoundTable o.later) (λ r. s) (λ p. sound_rewritten t q s p)
 sound_step t (encodes o buffer) s = s
 
 pub sound_run : (t : Table) (cs : List Call) → SoundTable t → SoundTable (run t cs)
 sound_run t [] s = s
 sound_run t (c ∷ cs) s = sound_run (step t c) cs (sound_step t c s)
+
+-- so do acts
+pub sound_act : (t : Table) (a : Act) → SoundTable t → SoundTable (left_by t a)
+sound_act t (calls c) s = sound_step t c s
+sound_act t (rewrites q) s = by_rewriting t q (λ o. SoundTable o.later) (λ r. s) (λ p. sound_rewritten t q s p)
+
+pub sound_acts : (t : Table) (acts : List Act) → SoundTable t → SoundTable (left_by_all t acts)
+sound_acts t [] s = s
+sound_acts t (a ∷ acts) s = sound_acts (left_by t a) acts (sound_act t a s)
+
+pub sound_first : (h : History) → SoundTable (first_table h)
+sound_first h = sound_made h.decl_room h.element_room h.area
+
+pub sound_last : (h : History) → SoundTable (last_table h)
+sound_last h = sound_acts (first_table h) h.acts (sound_first h)

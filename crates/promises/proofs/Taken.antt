@@ -1,28 +1,27 @@
 -- No refused kind is left.
-use Rattle.std.proofs.Common.{◌≡◌, ℕ, ◌+◌, ◌-◌, ◌<◌, ◌≤◌, max, Bool, true, false, cond, not, ◌&&◌, ◌||◌, eqb, ltb, ◌⊎◌, List, [], ◌∷◌, ◌++◌, map, length, get_or, Some, None, Option, sym, refl, ap, ◌∙◌, subst, inl, inr, arith, length-append}
+use Rattle.std.proofs.Common.{◌≡◌, ℕ, ◌+◌, ◌-◌, ◌<◌, ◌≤◌, max, Bool, true, false, cond, not, ◌&&◌, ◌||◌, eqb, ltb, List, [], ◌∷◌, ◌++◌, map, length, get_or, Some, None, Option, sym, refl, ap, ◌∙◌, subst, inl, inr, arith, length-append}
 use lib.ListN.{length-map}
 use Rattle.std.specs.List.{AllByRecursion as All}
 use Rattle.std.proofs.ByRecursion.{All-get_or, All-append, All-push}
 use Rattle.std.proofs.lemmas.List.{get_or-append_right}
-use Rattle.std.proofs.lemmas.Bool.{cond_both, cases_lt, cases_Bool, and_right, or_from, not_from_true, ne_eqb}
+use Rattle.std.proofs.lemmas.Bool.{cond_both, cases_lt, and_right, or_from, not_from_true}
 use Rattle.layout.specs.declared.kind.BtfKind.{BtfKind}
 use Rattle.layout.specs.declared.kind.BtfKind.TheVariants.{Unknown, Int, Ptr, Array, Struct, Union, Enum, Fwd, Typedef, Volatile, Const, Restrict, Func, FuncProto, Var, DataSec, Float, DeclTag, TypeTag, Enum64}
 use Rattle.layout.specs.Info.{low_of, flag_of}
-use Rattle.features.specs.declared.BtfFeature.{BtfFeature}
 use Rattle.features.specs.declared.BtfFeature.TheVariants as feature
 use Rattle.meaning.specs.Table.{Decl, Table, void}
 use Rattle.meaning.specs.Questions.{decl_kind, decl_at}
-use Rattle.rewriting.specs.Requests.{Request, Job, granted}
-use Rattle.rewriting.specs.Rules.{State, begun, with_placeholder, with_filler, with_renamed, changes, dotted, underscored, one_byte_int, kept, renamed, filler_id, placeholder_id, section_size, spanned, as_member, as_struct, fills, filled_section, mended_section, mended_entry, with_param, with_params, lacks_name, named_proto, becomes_static, linked_func, is_builtin, name_at, nameless, as_union, stand_in, news, turn, turns}
-use Rattle.rewriting.specs.Rewriting.{job, ended, with_rewritten, rewrite}
+use Rattle.rewriting.specs.Requests.{Job, granted}
+use Rattle.rewriting.specs.Rules.{State, begun, with_placeholder, with_filler, with_renamed, changes, dotted, underscored, one_byte_int, kept, renamed, filler_id, placeholder_id, section_size, spanned, as_member, as_struct, fills, filled_section, mended_section, mended_entry, with_param, with_params, lacks_name, named_proto, becomes_static, is_builtin, name_at, nameless, as_union, stand_in, news, turn, turns}
+use Rattle.rewriting.specs.Rewriting.{job, ended}
 use Rattle.promises.specs.Kinds.{kind_refused, refused_kind}
-use Rattle.promises.specs.Promises.{Reached, fresh, table, NoRefusedKindLeft}
+use Rattle.promises.specs.Acts.{last_table}
+use Rattle.promises.specs.Lasting.{NoRefusedKindLeft}
 use Rattle.promises.proofs.Sound.{SoundTable}
 use Rattle.promises.proofs.Kept.{kind_kept, flag_kept}
 use Rattle.promises.proofs.States.{length_turns}
-use Rattle.promises.proofs.Passed.{Accepted, when_accepted}
-use Rattle.promises.proofs.Stood.{Stood}
-use Rattle.promises.proofs.Steps.{sound_made, sound_run}
+use Rattle.promises.proofs.Passed.{when_accepted}
+use Rattle.promises.proofs.Steps.{sound_last}
 use Rattle.promises.proofs.Stay.{few_at, old_at, old_in_front}
 
 abbrev Taken : Job → Decl → Type 0
@@ -159,11 +158,11 @@ made_turns j s [] h = h
 made_turns j s (d ∷ ds) h = made_turns j (turn j s d) ds (made_news (decl_kind d) j s d h)
 
 pub no_refused_kind_left : NoRefusedKindLeft
-no_refused_kind_left r q n id e h =
-    let t = table r in
+no_refused_kind_left history q n id e h =
+    let t = last_table history in
     let j = job t q in
     let s = ended j in
-    let sound : SoundTable t = sound_run (fresh r) r.calls (sound_made r.decl_room r.element_room r.area) in
+    let sound : SoundTable t = sound_last history in
     let is = (when_accepted t q n e).later_is in
     let within : id < length (s.done ++ s.made) = subst (λ (u : Table). id < length u.decls) is h in
     let count = length_turns j begun t.decls in

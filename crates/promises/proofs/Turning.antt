@@ -1,33 +1,31 @@
 -- Each turn of a rewriting leaves a sound state, and the words add up.
-use Rattle.std.proofs.Common.{◌≡◌, ℕ, ◌+◌, ◌*◌, ◌<◌, ◌≤◌, max, Bool, true, false, cond, eqb, ltb, List, [], ◌∷◌, ◌++◌, map, length, get_or, Some, None, sum_by, Option, sym, refl, ap, ◌∙◌, subst, arith, length-append}
+use Rattle.std.proofs.Common.{◌≡◌, ℕ, ◌+◌, ◌*◌, ◌≤◌, max, Bool, true, cond, ltb, List, [], ◌∷◌, ◌++◌, map, length, get_or, Some, None, Option, sym, refl, ap, ◌∙◌, subst, arith, length-append}
 use lib.ListN.{length-map}
 use Rattle.std.specs.List.{AllByRecursion as All}
-use Rattle.std.proofs.ByRecursion.{All-append, All-push, All-weaker}
-use Rattle.std.proofs.lemmas.List.{length_push, nil_from_length}
-use Rattle.std.proofs.lemmas.List.Sums.{sum_by_push}
+use Rattle.std.proofs.ByRecursion.{All-append, All-push}
+use Rattle.std.proofs.lemmas.List.{length_push}
 use Rattle.std.proofs.lemmas.Bool.{cond_both, lt-ltb, eqb-true, and_parts}
 use Rattle.layout.specs.declared.kind.BtfKind.{BtfKind}
 use Rattle.layout.specs.declared.kind.BtfKind.TheVariants.{Unknown, Int, Ptr, Array, Struct, Union, Enum, Fwd, Typedef, Volatile, Const, Restrict, Func, FuncProto, Var, DataSec, Float, DeclTag, TypeTag, Enum64}
 use Rattle.layout.specs.Kinds.{extra_words, element_words}
 use Rattle.layout.specs.Info.{flag_of}
 use Rattle.features.specs.declared.BtfFeature.TheVariants as feature
-use Rattle.meaning.specs.Table.{Decl, void}
+use Rattle.meaning.specs.Table.{Decl}
 use Rattle.meaning.specs.Questions.{decl_kind}
 use Rattle.meaning.specs.File.{decl_words, type_words}
 use Rattle.meaning.proofs.Files.{joined_append}
 use Rattle.rewriting.specs.Requests.{Job, granted}
-use Rattle.rewriting.specs.Closed.{before}
 use Rattle.rewriting.specs.Sections.{section_fault, sections_from}
-use Rattle.rewriting.specs.Rules.{State, renamed, filler_id, placeholder_id, section_size, spanned, named_proto, next_offset, next_id, with_string, with_placeholder, with_filler, counts_filled, with_renamed, changes, name_at, dotted, underscored, placeholder_name, filler_type_name, filler_name, one_byte_int, kept, as_struct, fills, filled_section, mended_section, mended_entry, section_news, as_member, with_param, with_params, lacks_name, param_name, named_params, becomes_static, as_union, stand_in, news, stands, turn, turns}
+use Rattle.rewriting.specs.Rules.{State, renamed, filler_id, placeholder_id, section_size, spanned, named_proto, next_offset, next_id, with_string, with_placeholder, with_filler, with_renamed, changes, dotted, underscored, placeholder_name, filler_type_name, filler_name, one_byte_int, kept, as_struct, fills, filled_section, mended_section, mended_entry, section_news, as_member, with_param, with_params, lacks_name, becomes_static, as_union, stand_in, news, stands, turn, turns}
 use Rattle.rewriting.specs.Rewriting.{one_if_made}
 use Rattle.promises.specs.Calls.{Word}
 use Rattle.promises.proofs.Sound.{Sound, Grown, grown_push}
 use Rattle.promises.proofs.Words.{length_words, length_pushed}
 use Rattle.promises.proofs.Parts.{cond_both₂}
 use Rattle.promises.proofs.Kept.{kind_kept}
-use Rattle.promises.proofs.States.{Later, later_renamed, later_filler, later_string, later_param, later_params, later_news, later_turn, later_turns, done_turn, length_turn}
+use Rattle.promises.proofs.States.{later_news, later_turns, done_turn, length_turn}
 use Rattle.promises.proofs.Passed.{before_none, section_passed}
-use Rattle.promises.proofs.Standing.{Ready, Bounded, bounded_before, next_fits, next_id_fits, few_elements, length_named, sound_int, sound_var, sound_stand_in}
+use Rattle.promises.proofs.Standing.{Ready, Bounded, bounded_before, few_elements, length_named, sound_int, sound_var, sound_stand_in}
 
 pub record SoundState (j : Job) (s : State) : Type 0 where
   pub ready : Ready j s

@@ -1,21 +1,21 @@
 -- A whole rewriting leaves a sound table, and its words add up to what it answered.
-use Rattle.std.proofs.Common.{◌≡◌, ℕ, ◌+◌, ◌*◌, ◌<◌, ◌≤◌, true, ltb, List, [], ◌∷◌, ◌++◌, length, Some, None, Option, sym, refl, ap, ◌∙◌, subst, arith, length-append, length-take}
+use Rattle.std.proofs.Common.{◌≡◌, ℕ, ◌+◌, ◌*◌, true, ltb, List, [], ◌∷◌, ◌++◌, length, None, sym, refl, ap, ◌∙◌, subst, arith, length-append, length-take}
 use Rattle.std.specs.List.{AllByRecursion as All}
 use Rattle.std.proofs.ByRecursion.{All-append, All-weaker}
 use Rattle.std.proofs.lemmas.Bool.{false≢true, and_parts, leb-true}
-use Rattle.meaning.specs.Table.{Decl, Table, void, text, holds, most_decls, most_elements}
+use Rattle.meaning.specs.Table.{Decl, Table, void, text, holds}
 use Rattle.meaning.specs.File.{decl_words, type_words}
 use Rattle.meaning.proofs.Files.{joined_append}
 use Rattle.rewriting.specs.Requests.{Request, Job}
 use Rattle.rewriting.specs.Sections.{section_fault, sections_from}
-use Rattle.rewriting.specs.Rules.{State, begun, stands, turn, turns}
-use Rattle.rewriting.specs.Rewriting.{Tallies, tallied, one_if_made, job, ended, with_rewritten}
+use Rattle.rewriting.specs.Rules.{State, begun, stands, turns}
+use Rattle.rewriting.specs.Rewriting.{tallied, job, ended, with_rewritten}
 use Rattle.promises.specs.Calls.{Word}
 use Rattle.promises.proofs.Sound.{Sound, Grown, SoundTable}
 use Rattle.promises.proofs.States.{length_turns}
-use Rattle.promises.proofs.Passed.{before_none, Passed, Roomy, room_passed}
+use Rattle.promises.proofs.Passed.{before_none, Passed, room_passed}
 use Rattle.promises.proofs.Standing.{Bounded}
-use Rattle.promises.proofs.Turning.{SoundState, Turned, turned}
+use Rattle.promises.proofs.Turning.{SoundState, turned}
 
 -- id 0 stays as it is
 first_sound : (j : Job) → All (λ d. Word d.name) j.decls → SoundState j (stands begun void)

@@ -1,4 +1,4 @@
--- Lists of calls on a table: adding, asking, rewriting and encoding, in any order and number, accepted or refused.
+-- Lists of calls on a table: adding, asking and encoding, in any order and number, accepted or refused.
 use Rattle.std.specs.Prelude.{◌≡◌, ℕ, ◌+◌, ◌*◌, ◌^◌, ◌<◌, Bool, true, List, [], ◌∷◌, length, None}
 use Rattle.std.specs.List.{AllByRecursion as All}
 use Rattle.order.specs.Order.{Order}
@@ -9,11 +9,9 @@ use Rattle.layout.specs.declared.head.BtfType.{BtfType}
 use Rattle.layout.specs.declared.kind.BtfKind.{BtfKind}
 use Rattle.layout.specs.declared.pointer.PointerWidth.{PointerWidth}
 use Rattle.elements.specs.declared.BtfElement.{BtfElement}
-use Rattle.meaning.specs.Table.{Table, Outcome, text}
+use Rattle.meaning.specs.Table.{Table, text}
 use Rattle.meaning.specs.Adding.{add_string, add_type}
 use Rattle.meaning.specs.Questions.{asked_of, string_at, type_by_id, element_at, type_name, find_from, resolve_type, type_size}
-use Rattle.rewriting.specs.Requests.{Request}
-use Rattle.rewriting.specs.Rewriting.{Tallies, rewrite}
 
 -- a number of 32 bits
 abbrev pub Word : ℕ → Type 0
@@ -65,7 +63,6 @@ pub data Call : Type 0 where
   adds_string : List ℕ → Call
   adds_type : Given → Elements → Call
   asks : Question → Call
-  rewrites : Request → Call
   encodes : Order → List ℕ → Call
 
 -- what a call leaves
@@ -73,7 +70,6 @@ abbrev pub step : Table → Call → Table
 step t (adds_string name) = (add_string t name).later
 step t (adds_type g es) = (add_type t g.declaration es.serving es.items).later
 step t (asks q) = t
-step t (rewrites q) = (rewrite t q).later
 step t (encodes o buffer) = t
 
 abbrev pub run : Table → List Call → Table
@@ -84,21 +80,15 @@ run t (c ∷ cs) = run (step t c) cs
 abbrev pub published : BtfKind → ℕ → ℕ
 published kind count = 12 + 4 * extra_words kind + 4 * element_words kind * count
 
--- what the type part gains by a call, by the call's answer: an added declaration its published length, a rewriting 16
--- bytes for each placeholder, 32 for each filler pair and 12 for each section filled
+-- the published length of what a call added, by its answer
 abbrev pub if_accepted : Answer ℕ → ℕ → ℕ
 if_accepted (accepted answered) n = n
 if_accepted (refused r) n = 0
-
-abbrev pub tally_bytes : Answer Tallies → ℕ
-tally_bytes (accepted n) = 16 * n.placeholders + 32 * n.fillers + 12 * n.filled
-tally_bytes (refused r) = 0
 
 abbrev pub added_by : Table → Call → ℕ
 added_by t (adds_type g es) = if_accepted (add_type t g.declaration es.serving es.items).answer (published (kind_at g.declaration.kind) (length es.items))
 added_by t (adds_string name) = 0
 added_by t (asks q) = 0
-added_by t (rewrites q) = tally_bytes (rewrite t q).answer
 added_by t (encodes o buffer) = 0
 
 abbrev pub added : Table → List Call → ℕ

@@ -1,5 +1,5 @@
 -- What a rewriting has done, as a relation between the table before it and the table after it.
-use Rattle.std.specs.Prelude.{◌≡◌, ℕ, ◌+◌, ◌*◌, ◌<◌, ◌≤◌, max, Bool, true, false, cond, ◌||◌, ◌⊎◌, List, [], ◌∷◌, ◌++◌, map, length, get_or, take, Some, None, codes, decimal, ◌==◌, ◌≢◌, nat_lt, slice_index, slice_index_or}
+use Rattle.std.specs.Prelude.{◌≡◌, ℕ, ◌+◌, ◌*◌, ◌<◌, ◌≤◌, max, Bool, true, false, cond, ◌⊎◌, List, [], ◌∷◌, ◌++◌, map, length, get_or, take, Some, codes, decimal, ◌==◌, ◌≢◌, nat_lt, slice_index, slice_index_or}
 use Rattle.layout.specs.Kinds.{extra_words}
 use Rattle.layout.specs.Info.{low_of, flag_of}
 use Rattle.layout.specs.declared.kind.BtfKind.{BtfKind}

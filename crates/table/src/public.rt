@@ -7,7 +7,9 @@ ghost use Rattle.meaning.specs.Adding.{add_string, add_type};
 ghost use Rattle.meaning.specs.Questions.{asked_of, string_at, type_by_id, element_at, type_name, find_from, resolve_type, type_size};
 ghost use Rattle.meaning.specs.File.{encode};
 ghost use Rattle.promises.specs.Examples.{ExamplesHold};
-ghost use Rattle.promises.specs.Promises.{OneFileOneTable, SizesAndEndsStay, RulesDone, NoRefusedKindLeft, LengthAddsUp};
+ghost use Rattle.promises.specs.Rewritings.{RewritingsHold};
+ghost use Rattle.promises.specs.Promises.{OneFileOneTable, LengthAddsUp};
+ghost use Rattle.promises.specs.Lasting.{OneEncodingOneTable, SizesAndEndsStay, RulesDone, NoRefusedKindLeft, LengthsAddUp};
 ghost use Rattle.table.specs.Kept.{holding};
 ghost use Rattle.rows.specs.Rows.{void_row};
 ghost use Rattle.table.specs.Tables.{table_of, outcome, with_row, with_elements, written};
@@ -143,9 +145,11 @@ impl<'a> Btf<'a> {
 
     // Writes the file of the table into the buffer in a byte order, and answers how many bytes it has.
     // The rest of the buffer is left as it was, and all of it where the buffer is too short.
-    // After whatever calls, rewritings among them as they are defined (no call here rewrites yet): equal files come
-    // from equal tables, which answer every question and are rewritten alike; a rewriting keeps sizes and ends of data
-    // kinds, does every rule and leaves no refused kind; the type part is as long as what was added and answered.
+    // After whatever calls: equal files come from equal tables, which answer every question alike, and the
+    // type part is as long as what was added.
+    // With rewritings among the calls, as they are defined (no call here rewrites yet): equal encodings come from
+    // tables that answer every question and are rewritten alike; a rewriting keeps sizes and ends of data kinds, does
+    // every rule and leaves no refused kind; the type part is as long as what was added and answered.
     pub fn to_bytes<O: ByteOrder>(
         &self,
         strings: &[u8],
@@ -154,11 +158,14 @@ impl<'a> Btf<'a> {
     ) -> Result<usize, BtfError>
         ensures file { written result out.new ≡ encode O.ByteOrder.order (table_of self.now.store strings.now) out.old }
         ensures one_file { OneFileOneTable }
+        ensures length { LengthAddsUp }
+        ensures examples { ExamplesHold }
+        ensures one_encoding { OneEncodingOneTable }
         ensures sizes { SizesAndEndsStay }
         ensures rules { RulesDone }
         ensures kinds { NoRefusedKindLeft }
-        ensures length { LengthAddsUp }
-        ensures examples { ExamplesHold }
+        ensures lengths { LengthsAddUp }
+        ensures rewritings { RewritingsHold }
     {
         self.store.to_bytes(strings, order, out)
     }

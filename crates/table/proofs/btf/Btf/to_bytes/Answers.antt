@@ -1,18 +1,21 @@
-use Rattle.promises.proofs.Files.{one_file_one_table}
+use Rattle.promises.proofs.Files.{one_file_one_table, one_encoding_one_table}
 use Rattle.promises.proofs.Stay.{sizes_and_ends_stay}
 use Rattle.promises.proofs.Done.{rules_done}
 use Rattle.promises.proofs.Taken.{no_refused_kind_left}
-use Rattle.promises.proofs.Lengths.{length_adds_up}
-use Rattle.promises.proofs.Examples.{examples_hold}
+use Rattle.promises.proofs.Lengths.{length_adds_up, lengths_add_up}
+use Rattle.promises.proofs.Examples.{examples_hold, rewritings_hold}
 use Rattle.table.proofs.btf.Btf.to_bytes.Goals as goal
 
 pub returns : goal.returns
 returns g c = record {
   file = c.to_bytes.ensures;
   one_file = one_file_one_table;
+  length = length_adds_up;
+  examples = examples_hold;
+  one_encoding = one_encoding_one_table;
   sizes = sizes_and_ends_stay;
   rules = rules_done;
   kinds = no_refused_kind_left;
-  length = length_adds_up;
-  examples = examples_hold;
+  lengths = lengths_add_up;
+  rewritings = rewritings_hold;
 }
