@@ -7,6 +7,8 @@
 //
 // `rt check` links the program to target/bin/bench. `rt try bench` passes the words of a file crates/bench/args,
 // one to a line, but shows none of what the program prints.
+#![tactic(auto)]
+
 mod fault;
 mod filling;
 mod measuring;

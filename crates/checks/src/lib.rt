@@ -1,3 +1,5 @@
+#![tactic(auto)]
+
 // Tests of the table: refusals with their values, limits, names, walks and bytes; and of feature sources.
 #[cfg(test)]
 mod adding;

@@ -1,6 +1,8 @@
 // Runs scripts of calls: one command a line on standard input, one answer a line on standard output.
 // tools/oracle/README.md has the grammar and the printed words. The crate aya-obj answers the same scripts in the same
 // words, so that the two can be compared line by line.
+#![tactic(auto)]
+
 mod answer;
 mod command;
 mod declared;

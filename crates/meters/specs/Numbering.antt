@@ -1,5 +1,5 @@
 -- How files are numbered.
-use Rattle.std.specs.Prelude.{◌≡◌, ℕ, ◌-◌, ◌<◌, ◌≤◌, List, [], length, ◌≢◌, slice_index_or}
+use Rattle.std.specs.Prelude.{◌≡◌, ℕ, ◌-◌, ◌<◌, List, [], length, ◌≢◌, slice_index_or}
 
 -- no file has these bytes
 abbrev pub Absent : List (List ℕ) → List ℕ → Type 0

@@ -1,5 +1,7 @@
 // Takes a meter's BTF table from its first name to the last byte of its file, prints what was done line by
 // line, and then reads a swap sheet from standard input: which gateway gets which file, and which share one.
+#![tactic(auto)]
+
 mod fault;
 mod files;
 mod given;

@@ -1,12 +1,12 @@
 -- A new store.
-use Rattle.std.proofs.Common.{◌≡◌, ℕ, ◌+◌, ◌*◌, ◌<◌, ◌≤◌, true, false, cond, ◌&&◌, ltb, List, [], ◌∷◌, map, length, get_or, take, set, sum_by, sym, refl, ap, ◌∙◌, subst, arith}
+use Rattle.std.proofs.Common.{◌≡◌, ℕ, ◌<◌, List, [], ◌∷◌, map, length, get_or, take, set, sum_by, sym, ap, ◌∙◌, subst, arith}
 use Rattle.std.proofs.lemmas.List.{take_more_set, get_or-set_same, length-set}
 use Rattle.std.proofs.lemmas.Bool.{lt-ltb}
-use Rattle.meaning.specs.Table.{Table, made, void}
+use Rattle.meaning.specs.Table.{made, void}
 use Rattle.rows.specs.declared.row.TypeRow.{TypeRow}
 use Rattle.table.specs.declared.store.Store.{Store}
 use Rattle.rows.specs.Rows.{decl_of}
-use Rattle.table.specs.Kept.{Kept, Placed, row_length, used_rows, holding}
+use Rattle.table.specs.Kept.{Kept, Placed, row_length, used_rows}
 use Rattle.rows.specs.Rows.{void_row}
 use Rattle.table.specs.Tables.{table_of}
 

@@ -1,13 +1,12 @@
 -- How adding is refused or accepted, check by check.
-use Rattle.std.proofs.Common.{◌≡◌, ℕ, ◌+◌, ◌<◌, ◌≤◌, min, Bool, true, false, cond, not, ◌&&◌, ◌||◌, eqb, ltb, leb, List, [], ◌∷◌, ◌++◌, map, length, Some, None, Option, sym, refl, ap, ◌∙◌, arith}
-use Rattle.std.specs.List.{prefix_len}
-use Rattle.std.proofs.lemmas.Bool.{leb-false, ltb-false, eqb-false, or_parts, and_cases, not-false, both_ways, lt-ltb}
+use Rattle.std.proofs.Common.{◌≡◌, ℕ, ◌+◌, ◌<◌, ◌≤◌, min, Bool, true, false, cond, not, ◌&&◌, ◌||◌, eqb, ltb, leb, List, length, Some, None, Option, sym, refl, ap, ◌∙◌, arith}
+use Rattle.std.proofs.lemmas.Bool.{leb-false, ltb-false, eqb-false, or_parts, both_ways, lt-ltb}
 use Rattle.layout.specs.Kinds.{kind_at, kind_number, takes_flag, has_linkage}
-use Rattle.layout.specs.Refusals.{Refusal, refusal, area_number}
+use Rattle.layout.specs.Refusals.{Refusal, refusal}
 use Rattle.layout.specs.declared.kind.BtfKind.{BtfKind}
 use Rattle.layout.specs.declared.declaration.Declaration.{Declaration}
-use Rattle.meaning.specs.Table.{Table, Outcome, holds, refuses, accepts, no_table, most_decls, most_elements, most_strings}
-use Rattle.meaning.specs.Adding.{named, unless, no_room, declaration_fault, room_fault, add_type, with_type, add_string, with_string}
+use Rattle.meaning.specs.Table.{Table, holds, refuses, accepts, no_table, most_decls, most_elements}
+use Rattle.meaning.specs.Adding.{unless, no_room, declaration_fault, room_fault, add_type, with_type}
 
 pub none_first : {A : Type 0} (b : Bool) (x : A) (rest : Option A) → None ≡ cond b (Some x) rest → (b ≡ false) × (None ≡ rest)
 none_first true x rest e = let z : ◌≡◌ {A = ℕ} 0 1 = cc in absurd (omega arith)

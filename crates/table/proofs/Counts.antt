@@ -1,8 +1,7 @@
 -- How many declarations a store means, and when it lacks room.
-use Rattle.std.proofs.Common.{◌≡◌, ℕ, ◌+◌, ◌<◌, ◌≤◌, min, true, false, cond, ltb, leb, List, map, length, take, Some, None, Option, sym, ap, ◌∙◌, arith, length-take}
+use Rattle.std.proofs.Common.{◌≡◌, ℕ, ◌+◌, ◌<◌, ◌≤◌, min, ltb, leb, List, length, Some, None, sym, ◌∙◌, arith, length-take}
 use lib.ListN.{length-map}
 use Rattle.std.proofs.lemmas.Bool.{le-leb, lt-leb, lt-ltb, le-ltb, cond-true, cond-false}
-use Rattle.layout.specs.Refusals.{Refusal}
 use Rattle.meaning.specs.Table.{Table, most_decls, most_elements}
 use Rattle.meaning.specs.Adding.{room_fault, no_room}
 use Rattle.table.specs.declared.store.Store.{Store}

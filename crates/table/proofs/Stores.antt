@@ -1,12 +1,12 @@
 -- What a store keeps when a declaration is put behind the others.
-use Rattle.std.proofs.Common.{◌≡◌, ℕ, ◌+◌, ◌*◌, ◌<◌, ◌≤◌, ◌⊎◌, List, [], ◌∷◌, ◌++◌, map, length, get_or, take, drop, set, sum_by, sym, ap, ◌∙◌, subst, inl, inr, ⊎_elim, arith}
+use Rattle.std.proofs.Common.{◌≡◌, ℕ, ◌+◌, ◌<◌, ◌≤◌, ◌⊎◌, List, [], ◌∷◌, ◌++◌, length, get_or, take, set, sum_by, sym, ap, ◌∙◌, subst, ⊎_elim, arith}
 use Rattle.std.proofs.lemmas.List.{take_more_set, get_or-set_same, get_or-set_other, length-set}
 use Rattle.std.proofs.lemmas.List.Sums.{sum_by_push}
 use Rattle.std.proofs.lemmas.Bool.{cases_order}
 use Rattle.layout.specs.Info.{elements_of, type_length}
 use Rattle.layout.specs.declared.head.BtfType.{BtfType}
 use Rattle.elements.specs.declared.Element.{Element}
-use Rattle.meaning.specs.Table.{most_decls, most_elements, most_strings}
+use Rattle.meaning.specs.Table.{most_decls, most_elements}
 use Rattle.meaning.specs.Adding.{over}
 use Rattle.meaning.proofs.Over.{length_over}
 use Rattle.rows.specs.declared.row.TypeRow.{TypeRow}

@@ -1,5 +1,5 @@
 -- The table that a store means, after a declaration is put behind the others.
-use Rattle.std.proofs.Common.{◌≡◌, ℕ, zero, suc, ◌+◌, ◌-◌, ◌^◌, ◌<◌, ◌≤◌, Bool, true, false, cond, ltb, List, [], ◌∷◌, ◌++◌, map, length, get_or, take, drop, set, replicate, sym, refl, ap, ◌∙◌, subst, ⊎_elim, arith, length-take}
+use Rattle.std.proofs.Common.{◌≡◌, ℕ, ◌+◌, ◌-◌, ◌^◌, ◌<◌, ◌≤◌, cond, ltb, List, [], ◌∷◌, ◌++◌, map, length, get_or, take, drop, replicate, sym, refl, ap, ◌∙◌, subst, ⊎_elim, arith}
 use lib.ListN.{length-map}
 use Rattle.std.proofs.lemmas.List.{map_push, take-take, drop-take, take_at, drop_at, length-take-le, get_or-take, length-set}
 use Rattle.std.specs.List.{AllByRecursion as All}
@@ -7,19 +7,18 @@ use Rattle.std.proofs.lemmas.Bool.{cases_lt}
 use Rattle.layout.specs.Kinds.{element_words, kind_at}
 use Rattle.layout.specs.Heads.{low_bits, head_kept}
 use Rattle.layout.specs.declared.declaration.Declaration.{Declaration}
-use Rattle.layout.specs.Info.{info_word, kind_of, low_of, elements_of}
+use Rattle.layout.specs.Info.{kind_of, low_of, elements_of}
 use Rattle.layout.proofs.Words.{kind_built, low_built}
 use Rattle.layout.specs.declared.head.BtfType.{BtfType}
 use Rattle.layout.specs.declared.kind.BtfKind.{BtfKind}
 use Rattle.layout.specs.declared.kind.BtfKind.TheVariants.{Unknown, Int, Ptr, Array, Struct, Union, Enum, Fwd, Typedef, Volatile, Const, Restrict, Func, FuncProto, Var, DataSec, Float, DeclTag, TypeTag, Enum64}
 use Rattle.elements.specs.declared.Element.{Element}
 use Rattle.elements.specs.Packing.{packed}
-use Rattle.meaning.specs.Table.{Decl}
-use Rattle.meaning.specs.Adding.{over, decl_with, with_type}
-use Rattle.meaning.proofs.Over.{length_over, take_over}
+use Rattle.meaning.specs.Adding.{decl_with, with_type}
+use Rattle.meaning.proofs.Over.{length_over}
 use Rattle.rows.specs.declared.row.TypeRow.{TypeRow}
 use Rattle.table.specs.declared.store.Store.{Store}
-use Rattle.rows.specs.Rows.{kept_words, row_tail, decl_of}
+use Rattle.rows.specs.Rows.{kept_words, decl_of}
 use Rattle.table.specs.Kept.{Kept, Placed, used_rows}
 use Rattle.rows.specs.Rows.{row_of}
 use Rattle.table.specs.Tables.{table_of}

@@ -1,8 +1,7 @@
 -- What a table keeps of its areas and counts.
-use Rattle.std.specs.Prelude.{◌≡◌, ℕ, ◌+◌, ◌*◌, ◌<◌, ◌≤◌, Bool, ◌&&◌, List, [], ◌∷◌, length, take, sum_by, nat_lt, slice_index_or}
+use Rattle.std.specs.Prelude.{◌≡◌, ℕ, ◌+◌, ◌*◌, ◌<◌, ◌≤◌, Bool, ◌&&◌, List, length, take, sum_by, nat_lt, slice_index_or}
 use Rattle.layout.specs.Info.{elements_of, type_length}
 use Rattle.meaning.specs.Table.{most_decls, most_elements, most_strings}
-use Rattle.layout.specs.declared.head.BtfType.{BtfType}
 use Rattle.rows.specs.declared.row.TypeRow.{TypeRow}
 use Rattle.table.specs.declared.store.Store.{Store}
 

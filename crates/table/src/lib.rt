@@ -1,4 +1,6 @@
 // A BTF table over areas that the caller lends.
+#![tactic(auto)]
+
 mod adding;
 mod btf;
 mod encoding;

@@ -1,5 +1,5 @@
 -- what stands behind a mark is shorter than the whole
-use Rattle.std.proofs.Common.{◌≡◌, ℕ, ◌<◌, List, ◌∷◌, length, ap, ◌∙◌, arith}
+use Rattle.std.proofs.Common.{ℕ, ◌<◌, List, ◌∷◌, length, ap, ◌∙◌, arith}
 use Rattle.std.proofs.lemmas.List.{length-append}
 use Rattle.meters.specs.Sheets.{Split}
 use Rattle.meters.proofs.sheet.cut_line.Goals as goal

@@ -1,4 +1,4 @@
-use Rattle.std.proofs.Common.{sym, ap, ◌∙◌, arith}
+use Rattle.std.proofs.Common.{sym, ap, ◌∙◌}
 use Rattle.elements.specs.Packing.{packed}
 use Rattle.meaning.specs.Adding.{over}
 use Rattle.meaning.proofs.Over.{over_none, over_map_more, over_map_all}

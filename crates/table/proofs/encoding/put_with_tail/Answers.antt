@@ -1,4 +1,4 @@
-use Rattle.std.proofs.Common.{◌≡◌, ◌+◌, ◌*◌, length, arith, length-append}
+use Rattle.std.proofs.Common.{◌≡◌, ◌*◌, length, arith}
 use Rattle.std.specs.List.{flat_map}
 use Rattle.meaning.proofs.Files.{over_words}
 use Rattle.rows.specs.Rows.{head_words}

@@ -1,4 +1,4 @@
-use Rattle.std.proofs.Common.{length, ap, ◌∙◌, arith}
+use Rattle.std.proofs.Common.{length, ap, ◌∙◌}
 use Rattle.meaning.specs.Adding.{over}
 use Rattle.meaning.proofs.Files.{over_four}
 use Rattle.table.proofs.encoding.put_word.Goals as goal

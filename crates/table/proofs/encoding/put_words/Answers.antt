@@ -1,4 +1,4 @@
-use Rattle.std.proofs.Common.{take, sym, refl, ap, ◌∙◌}
+use Rattle.std.proofs.Common.{sym, refl, ap, ◌∙◌}
 use Rattle.std.proofs.lemmas.List.{take_all}
 use Rattle.meaning.specs.Adding.{over}
 use Rattle.meaning.specs.File.{coded}

@@ -1,4 +1,3 @@
-use Rattle.std.proofs.Common.{arith}
 use Rattle.table.proofs.Names.{name_put}
 use Rattle.table.proofs.text.put_name.Goals as goal
 

@@ -1,5 +1,5 @@
 -- a file that is found has its number, and one that is new goes behind the others
-use Rattle.std.proofs.Common.{◌≡◌, ℕ, ◌+◌, ◌^◌, ◌<◌, ◌≤◌, List, map, length, vec_items, sym, subst, inl, inr, arith}
+use Rattle.std.proofs.Common.{◌≡◌, ◌+◌, map, length, vec_items, sym, subst, inl, inr, arith}
 use Rattle.std.proofs.lemmas.List.{length-map}
 use Rattle.std.proofs.lemmas.Bool.{cases_cond}
 use Rattle.meters.specs.Numbering.{Absent, Unlike}

@@ -1,11 +1,11 @@
-use Rattle.std.proofs.Common.{◌≡◌, ℕ, ◌+◌, ◌<◌, ◌≤◌, true, List, map, length, set, sym, refl, ap, ◌∙◌, subst, arith}
+use Rattle.std.proofs.Common.{◌≡◌, ◌+◌, ◌<◌, ◌≤◌, map, length, set, sym, refl, ap, ◌∙◌, subst, arith}
 use lib.ListN.{length-map}
 use Rattle.std.specs.List.{AllByRecursion as All}
 use Rattle.layout.specs.Kinds.{kind_at, element_words}
 use Rattle.layout.specs.Heads.{head_kept}
-use Rattle.layout.specs.Refusals.{said, accepted}
+use Rattle.layout.specs.Refusals.{said}
 use Rattle.elements.specs.Packing.{packed}
-use Rattle.meaning.specs.Table.{Table, Outcome, holds, accepts}
+use Rattle.meaning.specs.Table.{accepts}
 use Rattle.meaning.specs.Adding.{declaration_fault, room_fault, with_type}
 use Rattle.layout.specs.Info.{elements_of}
 use Rattle.rows.specs.Rows.{row_of}

@@ -1,10 +1,10 @@
-use Rattle.std.proofs.Common.{◌≡◌, ℕ, ◌+◌, ◌-◌, ◌<◌, ◌≤◌, ltb, leb, List, map, length, get_or, take, sum_by, sym, refl, ap, ◌∙◌, subst, arith, length-take}
+use Rattle.std.proofs.Common.{◌≡◌, ℕ, ◌+◌, ◌-◌, ◌<◌, ◌≤◌, ltb, leb, List, map, length, get_or, take, sum_by, sym, ap, ◌∙◌, subst, arith, length-take}
 use borrow.Rule.Slice.PartMut.{put_mid}
 use Rattle.std.proofs.lemmas.Bool.{and_parts, leb-true}
 use Rattle.std.proofs.lemmas.List.{get_or-take, length-take-le}
 use Rattle.meaning.specs.Table.{text}
 use Rattle.meaning.specs.Adding.{over}
-use Rattle.meaning.specs.File.{header, type_part, type_bytes, file_length}
+use Rattle.meaning.specs.File.{type_part, type_bytes}
 use Rattle.rows.specs.declared.row.TypeRow.{TypeRow}
 use Rattle.table.specs.Kept.{Placed, row_length, used_rows}
 use Rattle.rows.specs.Rows.{decl_of}
