@@ -1,6 +1,6 @@
 -- Words and headers as bytes, in any byte order.
 use Rattle.std.proofs.Common.{◌≡◌, ℕ, ◌*◌, List, [], ◌∷◌, length, ap, arith, length-append}
-use Rattle.std.specs.List.{AllByRecursion as All}
+use Rattle.std.specs.List.{AllByRecursion}
 use Rattle.std.proofs.lemmas.List.{append_cancel_left}
 use Rattle.order.specs.Order.{Order}
 use Rattle.meaning.specs.File.{coded, header}
@@ -8,10 +8,10 @@ use Rattle.promises.specs.Calls.{Word}
 use Rattle.promises.proofs.Parts.{same_parts, length_joined, same_joined}
 
 module _ (o : Order) where
-  pub length_coded : (ws : List ℕ) → All Word ws → length (coded o ws) ≡ 4 * length ws
+  pub length_coded : (ws : List ℕ) → AllByRecursion Word ws → length (coded o ws) ≡ 4 * length ws
   length_coded ws p = length_joined o.word 4 Word (λ n q. o.word_length n) ws p
 
-  pub same_coded : (ws vs : List ℕ) → All Word ws → All Word vs → coded o ws ≡ coded o vs → ws ≡ vs
+  pub same_coded : (ws vs : List ℕ) → AllByRecursion Word ws → AllByRecursion Word vs → coded o ws ≡ coded o vs → ws ≡ vs
   same_coded ws vs p q e =
       same_joined o.word 4 Word (λ n q. o.word_length n) o.word_unlike ws vs p q (omega (arith, length_coded ws p, length_coded vs q, ap length e)) e
 

@@ -1,6 +1,6 @@
 -- A declaration that is accepted is kept as a sound one.
 use Rattle.std.proofs.Common.{◌≡◌, ℕ, zero, suc, ◌-◌, ◌^◌, ◌<◌, ◌≤◌, Bool, true, false, cond, eqb, ltb, ◌⊎◌, List, [], ◌∷◌, length, get_or, drop, replicate, sym, refl, ap, ◌∙◌, inl, inr, arith}
-use Rattle.std.specs.List.{AllByRecursion as All}
+use Rattle.std.specs.List.{AllByRecursion}
 use Rattle.std.proofs.lemmas.List.{nil_from_length}
 use Rattle.layout.specs.declared.kind.BtfKind.{BtfKind}
 use Rattle.layout.specs.Kinds.{kind_number, has_linkage, extra_words, element_words, Third, nothing, bytes, refers, third_word}
@@ -39,26 +39,26 @@ module _ (linkage : ℕ) (e : List ℕ) where
   rest_kept : (k : BtfKind) → drop (extra_words k) (extra_kept k linkage e) ≡ replicate (3 - extra_words k) 0
   rest_kept = each_kind (λ k. drop (extra_words k) (extra_kept k linkage e) ≡ replicate (3 - extra_words k) 0) (search)
 
-pub word_at : (e : List ℕ) (i : ℕ) → All Word e → Word (get_or e i 0)
+pub word_at : (e : List ℕ) (i : ℕ) → AllByRecursion Word e → Word (get_or e i 0)
 word_at [] i p = omega arith
 word_at (n ∷ e) zero p = p.0
 word_at (n ∷ e) (suc i) p = word_at e i p.1
 
-zeros : All Word (0 ∷ 0 ∷ 0 ∷ [])
+zeros : AllByRecursion Word (0 ∷ 0 ∷ 0 ∷ [])
 zeros = omega arith
 
-one : (n : ℕ) → Word n → All Word (n ∷ 0 ∷ 0 ∷ [])
+one : (n : ℕ) → Word n → AllByRecursion Word (n ∷ 0 ∷ 0 ∷ [])
 one n p = omega arith
 
-three : (e : List ℕ) → All Word e → All Word (get_or e 0 0 ∷ get_or e 1 0 ∷ get_or e 2 0 ∷ [])
+three : (e : List ℕ) → AllByRecursion Word e → AllByRecursion Word (get_or e 0 0 ∷ get_or e 1 0 ∷ get_or e 2 0 ∷ [])
 three e p = (word_at e 0 p, (word_at e 1 p, (word_at e 2 p, tt)))
 
-linkage_fits : (linkage : ℕ) → (true ≡ true → linkage ≤ 3) → All Word (linkage ∷ 0 ∷ 0 ∷ [])
+linkage_fits : (linkage : ℕ) → (true ≡ true → linkage ≤ 3) → AllByRecursion Word (linkage ∷ 0 ∷ 0 ∷ [])
 linkage_fits linkage h = omega (arith, h refl)
 
-extra_fit : (linkage : ℕ) (e : List ℕ) → All Word e → (k : BtfKind) → (has_linkage k ≡ true → linkage ≤ 3) → All Word (extra_kept k linkage e)
+extra_fit : (linkage : ℕ) (e : List ℕ) → AllByRecursion Word e → (k : BtfKind) → (has_linkage k ≡ true → linkage ≤ 3) → AllByRecursion Word (extra_kept k linkage e)
 extra_fit linkage e p =
-    each_kind (λ k. (has_linkage k ≡ true → linkage ≤ 3) → All Word (extra_kept k linkage e))
+    each_kind (λ k. (has_linkage k ≡ true → linkage ≤ 3) → AllByRecursion Word (extra_kept k linkage e))
     (search (zeros, one (get_or e 0 0) (word_at e 0 p), three e p, linkage_fits linkage) parts 40)
 
 -- elements come only with a kind that has some, and are as wide as it asks
@@ -66,7 +66,7 @@ module _ (g : Given) (es : Elements) (k : BtfKind) (fine : Fine k g.declaration.
   has_elements : (length es.items ≡ 0) ⊎ (0 < element_words k)
   has_elements = elim fine.served [ inl none ↦ inl none | inr s ↦ inr (omega (arith, es.wide, es.suits k s)) ]
 
-  wide_enough : All (λ ws. length ws ≡ element_words k) es.items
+  wide_enough : AllByRecursion (λ ws. length ws ≡ element_words k) es.items
   wide_enough =
       elim fine.served [
         | inl none ↦ rw (nil_from_length es.items none) tt

@@ -1,7 +1,7 @@
 -- Every rule is done to every declaration.
 use Rattle.std.proofs.Common.{◌≡◌, ℕ, zero, suc, ◌+◌, ◌*◌, ◌<◌, ◌≤◌, max, Bool, true, false, cond, not, ◌||◌, eqb, ltb, ◌⊎◌, List, [], ◌∷◌, map, length, get_or, take, Some, None, codes, Option, sym, refl, ap, ◌∙◌, subst, subst₂, inl, inr, arith, length-append}
 use lib.ListN.{length-map}
-use Rattle.std.specs.List.{AllByRecursion as All}
+use Rattle.std.specs.List.{AllByRecursion}
 use Rattle.std.proofs.ByRecursion.{All-get_or}
 use Rattle.std.proofs.lemmas.Slice.Eq.{bytes_eq-Decides}
 use Rattle.std.proofs.lemmas.List.{get_or_append_left, get_or-append_right, get_or-map, get_or_past, take_at, nil_from_length}
@@ -216,7 +216,7 @@ module _ (t : Table) (q : Request) (passed : Passed t q) (sound : SoundTable t) 
               elim (cases_Bool (changes j f d.name)) [
                 | inl changed ↦
                     let added : with_renamed j s f d.name ≡ with_string s (map f (name_at j d.name)) = cond-true (changes j f d.name) _ _ changed in
-                    let nonzero = mapped_nonzero from to some (name_at j d.name) (subst (All Nonzero) (sym name_is) (name_nonzero (text t) d.name name was)) in
+                    let nonzero = mapped_nonzero from to some (name_at j d.name) (subst (AllByRecursion Nonzero) (sym name_is) (name_nonzero (text t) d.name name was)) in
                     let now = subst (λ (v : State). string_from (strings j v) (next_offset j s) ≡ Some (map f (name_at j d.name))) (sym added) (read_added j s (map f (name_at j d.name)) nonzero) in
                     ap (string_from (text u)) (cond-true (changes j f d.name) (next_offset j s) d.name changed) ∙
                     read_last (next_offset j s) _ (read_on j (with_renamed j s f d.name) last begins (next_offset j s) _ now) ∙

@@ -1,6 +1,6 @@
 -- Equal files come from equal tables.
 use Rattle.std.proofs.Common.{◌≡◌, ℕ, ◌*◌, Bool, true, false, ltb, List, [], ◌∷◌, ◌++◌, length, sym, refl, ap, ◌∙◌, subst, append_assoc, arith}
-use Rattle.std.specs.List.{AllByRecursion as All}
+use Rattle.std.specs.List.{AllByRecursion}
 use Rattle.std.proofs.lemmas.Bool.{false≢true, and_parts}
 use Rattle.order.specs.Order.{Order}
 use Rattle.layout.specs.Refusals.{accepted}
@@ -25,9 +25,9 @@ wordless : (d : Decl) (ds : List Decl) → d ≡ void → type_words (d ∷ ds) 
 wordless d ds e = ap (λ v. type_words (v ∷ ds)) e
 
 -- id 0 with what was added: its words fit, are few, and tell the declarations
-pub grown_fit : (ds : List Decl) → Grown ds → All Word (type_words ds)
+pub grown_fit : (ds : List Decl) → Grown ds → AllByRecursion Word (type_words ds)
 grown_fit [] g = tt
-grown_fit (d ∷ ds) g = subst (All Word) (sym (wordless d ds g.0)) (type_words_fit ds g.1)
+grown_fit (d ∷ ds) g = subst (AllByRecursion Word) (sym (wordless d ds g.0)) (type_words_fit ds g.1)
 
 grown_same : (ds es : List Decl) → ltb 0 (length ds) ≡ true → ltb 0 (length es) ≡ true → Grown ds → Grown es → type_words ds ≡ type_words es → ds ≡ es
 grown_same [] es h k g j w = absurd (false≢true h)

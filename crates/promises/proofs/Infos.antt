@@ -1,6 +1,6 @@
 -- What holds of each kind, and what an info word gives back.
 use Rattle.std.proofs.Common.{◌≡◌, ℕ, ◌/◌, ◌%◌, ◌^◌, ◌<◌, ◌≤◌, Bool, cond, ◌⊎◌, refl, ap, ◌∙◌, arith}
-use Rattle.std.specs.List.{AllByRecursion as All}
+use Rattle.std.specs.List.{AllByRecursion}
 use Rattle.std.proofs.lemmas.Bool.{cases_cond}
 use Rattle.layout.specs.declared.kind.BtfKind.{BtfKind}
 use Rattle.layout.specs.declared.kind.BtfKind.TheVariants.{Unknown, Int, Ptr, Array, Struct, Union, Enum, Fwd, Typedef, Volatile, Const, Restrict, Func, FuncProto, Var, DataSec, Float, DeclTag, TypeTag, Enum64}
@@ -8,7 +8,7 @@ use Rattle.layout.specs.Kinds.{kinds, kind_number, kind_at, extra_words, element
 use Rattle.layout.specs.Info.{info_word, kind_of, low_of}
 
 -- what holds of all that the list of kinds has holds of each kind
-pub each_kind : (P : BtfKind → Type 0) → All P kinds → (k : BtfKind) → P k
+pub each_kind : (P : BtfKind → Type 0) → AllByRecursion P kinds → (k : BtfKind) → P k
 each_kind P all Unknown = all.0
 each_kind P all Int = all.1.0
 each_kind P all Ptr = all.1.1.0

@@ -1,6 +1,6 @@
 -- A declaration that a rule makes is sound, and shows what it was made of.
 use Rattle.std.proofs.Common.{◌≡◌, ℕ, ◌<◌, ◌≤◌, true, false, eqb, ◌⊎◌, List, [], ◌∷◌, length, refl, inl, inr, arith}
-use Rattle.std.specs.List.{AllByRecursion as All}
+use Rattle.std.specs.List.{AllByRecursion}
 use Rattle.std.proofs.lemmas.List.{nil_from_length}
 use Rattle.std.proofs.lemmas.Bool.{eqb-true, eq-eqb, ne_eqb}
 use Rattle.layout.specs.declared.kind.BtfKind.{BtfKind}
@@ -28,7 +28,7 @@ module _ (name : ℕ) (k : BtfKind) (linkage third data_word : ℕ) (tail : List
   flag_kept = ne_eqb _ _ (λ e. omega (arith, kind_small k, low_small linkage (length tail) few k))
 
   pub sound_kept : Word name → Word third → Word data_word → linkage ≤ 3 → eqb (kind_number k) 0 ≡ false → (length tail ≡ 0) ⊎ (0 < element_words k) →
-      All (λ ws. length ws ≡ element_words k) tail → All (All Word) tail → Sound (kept name k linkage third data_word tail)
+      AllByRecursion (λ ws. length ws ≡ element_words k) tail → AllByRecursion (AllByRecursion Word) tail → Sound (kept name k linkage third data_word tail)
   sound_kept name_fits third_fits data-fits linked known some widths fits =
       elim some [
         | inl none ↦

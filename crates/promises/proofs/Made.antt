@@ -1,6 +1,6 @@
 -- The placeholder and the filler are there, under their names.
 use Rattle.std.proofs.Common.{◌≡◌, ℕ, ◌+◌, ◌<◌, List, [], ◌∷◌, ◌++◌, length, get_or, Some, None, Option, sym, refl, ap, ◌∙◌, append_assoc, arith, length-append}
-use Rattle.std.specs.List.{AllByRecursion as All}
+use Rattle.std.specs.List.{AllByRecursion}
 use Rattle.std.proofs.lemmas.List.{get_or_append_left, get_or-append-add, get_or_at, get_or_push, length_push}
 use Rattle.std.proofs.lemmas.Bool.{cond_both}
 use Rattle.layout.specs.declared.kind.BtfKind.{BtfKind}
@@ -86,13 +86,13 @@ right_string : (j : Job) (s : State) (name : List ℕ) → Right j s → Right j
 right_string j s name = right_on j s (with_string s name) (later_string s name) refl refl
 
 -- a string that is added can be read at once
-pub read_added : (j : Job) (s : State) (name : List ℕ) → All Nonzero name → string_from (strings j (with_string s name)) (next_offset j s) ≡ Some name
+pub read_added : (j : Job) (s : State) (name : List ℕ) → AllByRecursion Nonzero name → string_from (strings j (with_string s name)) (next_offset j s) ≡ Some name
 read_added j s name p =
     ap (λ l. string_from l (next_offset j s)) (sym (append_assoc j.bytes s.added (name ++ 0 ∷ []))) ∙
     ap (string_from (strings j s ++ (name ++ 0 ∷ []))) (sym (length-append j.bytes s.added)) ∙
     string_added (strings j s) name [] p
 
-all_letters : All Nonzero placeholder_name
+all_letters : AllByRecursion Nonzero placeholder_name
 all_letters = search
 
 right_placeholder : (j : Job) (s : State) (o : Option ℕ) → s.placeholder ≡ o → Right j s → Right j (with_placeholder j s o)
@@ -112,10 +112,10 @@ right_placeholder j s None e right =
       filler = λ id e'. filler_on j s u (later_placeholder j s None e) id (right.filler id e');
     }
 
-type_letters : All Nonzero filler_type_name
+type_letters : AllByRecursion Nonzero filler_type_name
 type_letters = search
 
-filler_letters : All Nonzero filler_name
+filler_letters : AllByRecursion Nonzero filler_name
 filler_letters = search
 
 right_filler : (j : Job) (s : State) (o : Option ℕ) → s.filler ≡ o → Right j s → Right j (with_filler j s o)

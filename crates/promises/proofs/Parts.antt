@@ -1,6 +1,6 @@
 -- Equal lists, made of parts that are equally long, have equal parts.
 use Rattle.std.proofs.Common.{◌≡◌, ℕ, ◌*◌, Bool, true, false, cond, List, [], ◌∷◌, ◌++◌, length, sym, refl, mul-suc, arith, length-append}
-use Rattle.std.specs.List.{flat_map, AllByRecursion as All}
+use Rattle.std.specs.List.{flat_map, AllByRecursion}
 use Rattle.std.proofs.ByRecursion.{All-append}
 use Rattle.std.proofs.lemmas.List.{flat_map_more}
 
@@ -17,11 +17,11 @@ same_parts (x ∷ a) (y ∷ c) b d l e =
 
 -- a list in which each item stands as n others
 module _ {X A : Type 0} (f : X → List A) (n : ℕ) (P : X → Type 0) (long : (x : X) → P x → length (f x) ≡ n) where
-  pub length_joined : (xs : List X) → All P xs → length (flat_map f xs) ≡ n * length xs
+  pub length_joined : (xs : List X) → AllByRecursion P xs → length (flat_map f xs) ≡ n * length xs
   length_joined [] p = omega arith
   length_joined (x ∷ xs) p = omega (arith, length-append (f x) (flat_map f xs), long x p.0, length_joined xs p.1, mul-suc n (length xs))
 
-  pub same_joined : ((x y : X) → P x → P y → f x ≡ f y → x ≡ y) → (xs ys : List X) → All P xs → All P ys → length xs ≡ length ys → flat_map f xs ≡ flat_map f ys → xs ≡ ys
+  pub same_joined : ((x y : X) → P x → P y → f x ≡ f y → x ≡ y) → (xs ys : List X) → AllByRecursion P xs → AllByRecursion P ys → length xs ≡ length ys → flat_map f xs ≡ flat_map f ys → xs ≡ ys
   same_joined alike [] [] p q l e = refl
   same_joined alike [] (y ∷ ys) p q l e = absurd (omega arith)
   same_joined alike (x ∷ xs) [] p q l e = absurd (omega arith)
@@ -31,7 +31,7 @@ module _ {X A : Type 0} (f : X → List A) (n : ℕ) (P : X → Type 0) (long : 
       let others = same_joined alike xs ys p.1 q.1 (omega arith) parts.1 in
       cc
 
-pub all_joined : {X A : Type 0} (f : X → List A) (P : A → Type 0) (xs : List X) → All (λ x. All P (f x)) xs → All P (flat_map f xs)
+pub all_joined : {X A : Type 0} (f : X → List A) (P : A → Type 0) (xs : List X) → AllByRecursion (λ x. AllByRecursion P (f x)) xs → AllByRecursion P (flat_map f xs)
 all_joined f P [] p = tt
 all_joined f P (x ∷ xs) p = All-append P (f x) (flat_map f xs) p.0 (all_joined f P xs p.1)
 

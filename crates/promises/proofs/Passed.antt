@@ -1,6 +1,6 @@
 -- What holds where the checks of a rewriting find no fault.
 use Rattle.std.proofs.Common.{◌≡◌, ℕ, zero, suc, ◌+◌, ◌*◌, ◌<◌, ◌≤◌, Bool, true, false, cond, not, eqb, ltb, leb, List, [], ◌∷◌, length, Some, None, Option, sym, refl, ap, ◌∙◌, subst, inl, inr, arith}
-use Rattle.std.specs.List.{AllByRecursion as All}
+use Rattle.std.specs.List.{AllByRecursion}
 use Rattle.std.proofs.lemmas.Bool.{cond_both, cond-true, cond-false, not-false, ltb-true, leb-true, eqb-true, cases_Bool}
 use Rattle.std.proofs.lemmas.Bool.Decides.{nat_tests}
 use Rattle.layout.specs.declared.kind.BtfKind.{BtfKind}
@@ -35,7 +35,7 @@ same_kind k k' e = sym (kind_at_number k) ∙ ap kind_at (eqb-true _ _ e) ∙ ki
 pub record Closed (bytes : List ℕ) (count : ℕ) (d : Decl) : Type 0 where
   pub name : List ℕ
   pub named : string_from bytes d.name ≡ Some name
-  pub ids : All (λ id. id < count) (own_ids d)
+  pub ids : AllByRecursion (λ id. id < count) (own_ids d)
 
 named_passed : (id offset : ℕ) (element : Option ℕ) (o : Option (List ℕ)) → no_name id element offset o ≡ None → (name : List ℕ) × (o ≡ Some name)
 named_passed id offset element (Some name) e = (name, refl)
@@ -48,7 +48,7 @@ id_passed count id named element e =
       | inr no' ↦ absurd (let z : ◌≡◌ {A = ℕ} 0 1 = cc in omega arith)
     ]
 
-ids_passed : (count id : ℕ) (ids : List ℕ) → ids_fault count id ids ≡ None → All (λ n. n < count) ids
+ids_passed : (count id : ℕ) (ids : List ℕ) → ids_fault count id ids ≡ None → AllByRecursion (λ n. n < count) ids
 ids_passed count id [] e = tt
 ids_passed count id (n ∷ ids) e =
     let parts = before_none (id_fault count id None n) (ids_fault count id ids) e in
@@ -61,13 +61,13 @@ closed_at bytes count id d e =
     let ids = before_none (ids_fault count id (own_ids d)) (elements_fault bytes count id (element_refers (decl_kind d)) 0 d.tail) parts.1 in
     record { name = name.0; named = name.1; ids = ids_passed count id (own_ids d) ids.0 }
 
-closed_from : (bytes : List ℕ) (count id : ℕ) (ds : List Decl) → open_from bytes count id ds ≡ None → All (Closed bytes count) ds
+closed_from : (bytes : List ℕ) (count id : ℕ) (ds : List Decl) → open_from bytes count id ds ≡ None → AllByRecursion (Closed bytes count) ds
 closed_from bytes count id [] e = tt
 closed_from bytes count id (d ∷ ds) e =
     let parts = before_none (open_at bytes count id d) (open_from bytes count (id + 1) ds) e in
     (closed_at bytes count id d parts.0, closed_from bytes count (id + 1) ds parts.1)
 
-pub closed_passed : (bytes : List ℕ) (ds : List Decl) → open_fault bytes ds ≡ None → All (Closed bytes (length ds)) ds
+pub closed_passed : (bytes : List ℕ) (ds : List Decl) → open_fault bytes ds ≡ None → AllByRecursion (Closed bytes (length ds)) ds
 closed_passed bytes ds e = closed_from bytes (length ds) 0 ds e
 
 -- Sections.
@@ -88,7 +88,7 @@ needed_passed number id entry None e = absurd (let z : ◌≡◌ {A = ℕ} 0 1 =
 needed_passed number id entry (Some n) e = record { number = n; found = refl; small = large_passed id n entry e }
 
 each_passed : (fault : ℕ → List ℕ → Option Refusal) (P : List ℕ → Type 0) → ((index : ℕ) (ws : List ℕ) → fault index ws ≡ None → P ws) →
-    (index : ℕ) (tail : List (List ℕ)) → each_fault fault index tail ≡ None → All P tail
+    (index : ℕ) (tail : List (List ℕ)) → each_fault fault index tail ≡ None → AllByRecursion P tail
 each_passed fault P one index [] e = tt
 each_passed fault P one index (ws ∷ rest) e =
     let parts = before_none (fault index ws) (each_fault fault (index + 1) rest) e in
@@ -122,8 +122,8 @@ member_passed id index ws e =
 -- a section
 pub record SectionPassed (j : Job) (d : Decl) : Type 0 where
   pub row : granted j feature.DataSec ≡ true → ltb 0 d.third ≡ false → Found (section_number j (name_at j d.name))
-  pub entries : granted j feature.DataSec ≡ true → ltb 0 d.third ≡ false → All (EntryPassed j) d.tail
-  pub members : granted j feature.DataSec ≡ false → All MemberPassed d.tail
+  pub entries : granted j feature.DataSec ≡ true → ltb 0 d.third ≡ false → AllByRecursion (EntryPassed j) d.tail
+  pub members : granted j feature.DataSec ≡ false → AllByRecursion MemberPassed d.tail
 
 pub section_passed : (j : Job) (id : ℕ) (d : Decl) → decl_kind d ≡ DataSec → section_fault j id d ≡ None → SectionPassed j d
 section_passed j id d kind e =

@@ -1,6 +1,6 @@
 -- What holds of the declarations of a table that calls have made.
 use Rattle.std.proofs.Common.{◌≡◌, ◌+◌, ◌-◌, ◌*◌, ◌≤◌, true, false, cond, eqb, ltb, List, [], ◌∷◌, ◌++◌, length, drop, replicate}
-use Rattle.std.specs.List.{AllByRecursion as All}
+use Rattle.std.specs.List.{AllByRecursion}
 use Rattle.std.proofs.ByRecursion.{All-push}
 use Rattle.std.proofs.lemmas.Bool.{false≢true}
 use Rattle.layout.specs.declared.kind.BtfKind.{BtfKind}
@@ -19,17 +19,17 @@ pub record Sound (d : Decl) : Type 0 where
   pub name_fits : Word d.name
   pub info_fits : Word d.info
   pub third_fits : Word d.third
-  pub extra_fits : All Word d.extra
+  pub extra_fits : AllByRecursion Word d.extra
   pub extra_length : length d.extra ≡ 3
   pub extra_rest : drop (extra_words kind) d.extra ≡ replicate (3 - extra_words kind) 0
   pub counted : length d.tail ≡ cond (ltb 0 (element_words kind)) (low_of d.info) 0
-  pub widths : All (λ ws. length ws ≡ element_words kind) d.tail
-  pub tail_fits : All (All Word) d.tail
+  pub widths : AllByRecursion (λ ws. length ws ≡ element_words kind) d.tail
+  pub tail_fits : AllByRecursion (AllByRecursion Word) d.tail
 
 -- id 0, and then what was added
 abbrev pub Grown : List Decl → Type 0
 Grown [] = Unit {0}
-Grown (d ∷ ds) = (d ≡ void) × All Sound ds
+Grown (d ∷ ds) = (d ≡ void) × AllByRecursion Sound ds
 
 -- one more behind them
 pub grown_push : (ds : List Decl) (d : Decl) → ltb 0 (length ds) ≡ true → Grown ds → Sound d → Grown (ds ++ d ∷ [])

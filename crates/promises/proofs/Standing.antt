@@ -1,7 +1,7 @@
 -- What stands in a declaration's place is sound.
 use Rattle.std.proofs.Common.{◌≡◌, ℕ, zero, suc, ◌+◌, ◌<◌, ◌≤◌, max, Bool, true, false, cond, eqb, ltb, List, [], ◌∷◌, map, length, get_or, Some, None, Option, sym, refl, ap, ◌∙◌, subst, inl, inr, arith}
 use lib.ListN.{length-map}
-use Rattle.std.specs.List.{AllByRecursion as All}
+use Rattle.std.specs.List.{AllByRecursion}
 use Rattle.std.proofs.ByRecursion.{All-map, All-weaker}
 use Rattle.std.proofs.lemmas.Bool.{cond_both}
 use Rattle.std.proofs.lemmas.Bool.Decides.{nat_tests}
@@ -22,7 +22,7 @@ use Rattle.promises.proofs.States.{Later, begins_length, later_param, later_para
 use Rattle.promises.proofs.Passed.{Found, EntryPassed, MemberPassed, SectionPassed}
 
 -- one thing and another of each item give a third
-pub all_two : {X : Type 0} (P Q R : X → Type 0) → ((x : X) → P x → Q x → R x) → (xs : List X) → All P xs → All Q xs → All R xs
+pub all_two : {X : Type 0} (P Q R : X → Type 0) → ((x : X) → P x → Q x → R x) → (xs : List X) → AllByRecursion P xs → AllByRecursion Q xs → AllByRecursion R xs
 all_two P Q R f [] p q = tt
 all_two P Q R f (x ∷ xs) p q = (f x p.0 q.0, all_two P Q R f xs p.1 q.1)
 
@@ -35,19 +35,19 @@ module _ (d : Decl) (sound : Sound d) where
     same : sound.kind ≡ k
     same = sym sound.kind_is ∙ kind
 
-    pub widths_at : All (λ ws. length ws ≡ element_words k) d.tail
-    widths_at = subst (λ (x : BtfKind). All (λ ws. length ws ≡ element_words x) d.tail) same sound.widths
+    pub widths_at : AllByRecursion (λ ws. length ws ≡ element_words k) d.tail
+    widths_at = subst (λ (x : BtfKind). AllByRecursion (λ ws. length ws ≡ element_words x) d.tail) same sound.widths
 
 -- names that are words, at any id
-pub word_name : (ds : List Decl) → All (λ d. Word d.name) ds → (id : ℕ) → Word (decl_at ds id).name
+pub word_name : (ds : List Decl) → AllByRecursion (λ d. Word d.name) ds → (id : ℕ) → Word (decl_at ds id).name
 word_name [] p id = omega arith
 word_name (d ∷ ds) p zero = p.0
 word_name (d ∷ ds) p (suc id) = word_name ds p.1 id
 
 -- what holds of the state of a rewriting, and where it stays within bounds
 pub record Ready (j : Job) (s : State) : Type 0 where
-  pub old_names : All (λ d. Word d.name) j.decls
-  pub names : All (λ d. Word d.name) s.done
+  pub old_names : AllByRecursion (λ d. Word d.name) j.decls
+  pub names : AllByRecursion (λ d. Word d.name) s.done
   pub placeholder : (id : ℕ) → s.placeholder ≡ Some id → id < next_id j s
   pub filler : (id : ℕ) → s.filler ≡ Some id → id < next_id j s
 
@@ -114,7 +114,7 @@ sound_named d name s p = record {
 
 -- name, third word and elements changed, as many elements as before
 sound_changed : (d : Decl) (name third : ℕ) (tail : List (List ℕ)) (sound : Sound d) → Word name → Word third → length tail ≡ length d.tail →
-    All (λ ws. length ws ≡ element_words sound.kind) tail → All (All Word) tail →
+    AllByRecursion (λ ws. length ws ≡ element_words sound.kind) tail → AllByRecursion (AllByRecursion Word) tail →
     Sound (record { name = name; info = d.info; third = third; extra = d.extra; tail = tail })
 sound_changed d name third tail s p q same wide fits = record {
   kind = s.kind;
@@ -132,12 +132,12 @@ sound_changed d name third tail s p q same wide fits = record {
 }
 
 -- Sections refused.
-spanned_fits : (size : ℕ) (tail : List (List ℕ)) → size ≤ greatest_word → All MemberPassed tail → spanned size tail ≤ greatest_word
+spanned_fits : (size : ℕ) (tail : List (List ℕ)) → size ≤ greatest_word → AllByRecursion MemberPassed tail → spanned size tail ≤ greatest_word
 spanned_fits size [] p m = p
 spanned_fits size (ws ∷ rest) p m = spanned_fits (max size (entry_end ws)) rest (omega (arith, m.0.reach)) m.1
 
 module _ (j : Job) (s : State) (d : Decl) (ready : Ready j s) (bound : Bounded j s) (sound : Sound d) where
-  sound_struct : decl_kind d ≡ DataSec → All MemberPassed d.tail → Sound (as_struct j s d)
+  sound_struct : decl_kind d ≡ DataSec → AllByRecursion MemberPassed d.tail → Sound (as_struct j s d)
   sound_struct kind m =
       let tail = map (as_member j s) d.tail in
       let count = length-map d.tail (as_member j s) in
@@ -145,9 +145,9 @@ module _ (j : Job) (s : State) (d : Decl) (ready : Ready j s) (bound : Bounded j
       (renamed_fits j s ready bound underscored d.name sound.name_fits)
       (omega (arith, spanned_fits d.third d.tail (omega (arith, sound.third_fits)) m))
       (omega arith) (omega arith) refl (inr (omega arith))
-      (All-map (λ ws. length ws ≡ 3) (as_member j s) d.tail (All-weaker (All Word) _ (λ ws p. refl) d.tail sound.tail_fits))
-      (All-map (All Word) (as_member j s) d.tail
-      (all_two (All Word) MemberPassed (λ ws. All Word (as_member j s ws))
+      (All-map (λ ws. length ws ≡ 3) (as_member j s) d.tail (All-weaker (AllByRecursion Word) _ (λ ws p. refl) d.tail sound.tail_fits))
+      (All-map (AllByRecursion Word) (as_member j s) d.tail
+      (all_two (AllByRecursion Word) MemberPassed (λ ws. AllByRecursion Word (as_member j s ws))
       (λ ws p passed. (moment_fits j s ready bound (entry_id ws), (word_at ws 0 p, (omega (arith, passed.offset), tt)))) d.tail sound.tail_fits m))
 
   -- Sections granted.
@@ -168,10 +168,10 @@ module _ (j : Job) (s : State) (d : Decl) (ready : Ready j s) (bound : Bounded j
   mended_wide : (ws : List ℕ) → length ws ≡ 3 → length (mended_entry j ws) ≡ 3
   mended_wide ws three = cond_both (eqb (var_linkage (decl_at j.decls (entry_id ws))) 0) _ _ (λ (l : List ℕ). length l ≡ 3) (λ e. three) (λ e. refl)
 
-  mended_fits : (ws : List ℕ) → All Word ws → EntryPassed j ws → All Word (mended_entry j ws)
+  mended_fits : (ws : List ℕ) → AllByRecursion Word ws → EntryPassed j ws → AllByRecursion Word (mended_entry j ws)
   mended_fits ws p passed =
       let var = decl_at j.decls (entry_id ws) in
-      cond_both (eqb (var_linkage var) 0) _ _ (All Word) (λ e. p)
+      cond_both (eqb (var_linkage var) 0) _ _ (AllByRecursion Word) (λ e. p)
       (λ e. (word_at ws 0 p, (omega (arith, or_zero_fits (symbol_number j (name_at j var.name)) (passed.symbol e)), (word_at ws 2 p, tt))))
 
   sound_mended : decl_kind d ≡ DataSec → SectionPassed j d → granted j feature.DataSec ≡ true → Sound (mended_section j s d)
@@ -183,29 +183,29 @@ module _ (j : Job) (s : State) (d : Decl) (ready : Ready j s) (bound : Bounded j
       (renamed_fits j s ready bound dotted d.name sound.name_fits)
       (omega (arith, size_fits passed g))
       (cond_both (ltb 0 d.third) _ _ (λ (l : List (List ℕ)). length l ≡ length d.tail) (λ e. refl) (λ e. length-map d.tail (mended_entry j)))
-      (cond_both (ltb 0 d.third) _ _ (All (λ ws. length ws ≡ element_words sound.kind)) (λ e. sound.widths)
+      (cond_both (ltb 0 d.third) _ _ (AllByRecursion (λ ws. length ws ≡ element_words sound.kind)) (λ e. sound.widths)
       (λ e. All-map (λ ws. length ws ≡ element_words sound.kind) (mended_entry j) d.tail
       (All-weaker (λ ws. length ws ≡ 3) (λ ws. length (mended_entry j ws) ≡ element_words sound.kind) (λ ws three. mended_wide ws three ∙ ap element_words (sym is)) d.tail at)))
-      (cond_both (ltb 0 d.third) _ _ (All (All Word)) (λ e. sound.tail_fits)
-      (λ e. All-map (All Word) (mended_entry j) d.tail
-      (all_two (All Word) (EntryPassed j) (λ ws. All Word (mended_entry j ws)) mended_fits d.tail sound.tail_fits (passed.entries g e))))
+      (cond_both (ltb 0 d.third) _ _ (AllByRecursion (AllByRecursion Word)) (λ e. sound.tail_fits)
+      (λ e. All-map (AllByRecursion Word) (mended_entry j) d.tail
+      (all_two (AllByRecursion Word) (EntryPassed j) (λ ws. AllByRecursion Word (mended_entry j ws)) mended_fits d.tail sound.tail_fits (passed.entries g e))))
 
 -- Parameters.
 pub length_named : (j : Job) (s : State) (index : ℕ) (tail : List (List ℕ)) → length (named_params j s index tail) ≡ length tail
 length_named j s index [] = refl
 length_named j s index (ws ∷ rest) = ap suc (length_named j (with_param s index ws) (index + 1) rest)
 
-named_wide : (j : Job) (s : State) (index : ℕ) (tail : List (List ℕ)) → All (λ ws. length ws ≡ 2) tail → All (λ ws. length ws ≡ 2) (named_params j s index tail)
+named_wide : (j : Job) (s : State) (index : ℕ) (tail : List (List ℕ)) → AllByRecursion (λ ws. length ws ≡ 2) tail → AllByRecursion (λ ws. length ws ≡ 2) (named_params j s index tail)
 named_wide j s index [] p = tt
 named_wide j s index (ws ∷ rest) p =
     (cond_both (lacks_name ws) _ _ (λ (l : List ℕ). length l ≡ 2) (λ e. refl) (λ e. p.0), named_wide j (with_param s index ws) (index + 1) rest p.1)
 
-named_fits : (j : Job) (s : State) (index : ℕ) (tail : List (List ℕ)) → Bounded j (with_params s index tail) → All (All Word) tail → All (All Word) (named_params j s index tail)
+named_fits : (j : Job) (s : State) (index : ℕ) (tail : List (List ℕ)) → Bounded j (with_params s index tail) → AllByRecursion (AllByRecursion Word) tail → AllByRecursion (AllByRecursion Word) (named_params j s index tail)
 named_fits j s index [] b p = tt
 named_fits j s index (ws ∷ rest) b p =
     let after = bounded_before j (with_param s index ws) _ (later_params (with_param s index ws) (index + 1) rest) b in
     let here = bounded_before j s (with_param s index ws) (later_param s index ws) after in (
-      cond_both (lacks_name ws) _ _ (All Word) (λ e. (next_fits j s here, (word_at ws 1 p.0, tt))) (λ e. p.0),
+      cond_both (lacks_name ws) _ _ (AllByRecursion Word) (λ e. (next_fits j s here, (word_at ws 1 p.0, tt))) (λ e. p.0),
       named_fits j (with_param s index ws) (index + 1) rest b p.1,
     )
 
@@ -216,21 +216,21 @@ module _ (j : Job) (s : State) (d : Decl) (ready : Ready j s) (sound : Sound d) 
       let at = widths_at d sound FuncProto kind in
       let is = same d sound FuncProto kind in
       sound_changed d d.name d.third (named_params j s 0 d.tail) sound sound.name_fits sound.third_fits (length_named j s 0 d.tail)
-      (subst (λ (k : BtfKind). All (λ ws. length ws ≡ element_words k) (named_params j s 0 d.tail)) (sym is) (named_wide j s 0 d.tail at))
+      (subst (λ (k : BtfKind). AllByRecursion (λ ws. length ws ≡ element_words k) (named_params j s 0 d.tail)) (sym is) (named_wide j s 0 d.tail at))
       (named_fits j s 0 d.tail b sound.tail_fits)
 
   sound_enum : (third : ℕ) (k : BtfKind) → Word third → decl_kind d ≡ k → element_words k ≡ 2 → Sound (kept d.name Enum 0 third 0 d.tail)
   sound_enum third k p kind two =
       sound_kept d.name Enum 0 third 0 d.tail (few_elements d sound) sound.name_fits p (omega arith) (omega arith) refl (inr (omega arith))
-      (subst (λ n. All (λ ws. length ws ≡ n) d.tail) two (widths_at d sound k kind)) sound.tail_fits
+      (subst (λ n. AllByRecursion (λ ws. length ws ≡ n) d.tail) two (widths_at d sound k kind)) sound.tail_fits
 
   sound_union : decl_kind d ≡ Enum64 → Bounded j s → Sound (as_union j s d)
   sound_union kind b =
       let member : List ℕ → List ℕ = λ ws. get_or ws 0 0 ∷ placeholder_id j s ∷ 0 ∷ [] in
       sound_kept d.name Union 0 d.third 0 (map member d.tail) (omega (arith, length-map d.tail member, few_elements d sound))
       sound.name_fits sound.third_fits (omega arith) (omega arith) refl (inr (omega arith))
-      (All-map (λ ws. length ws ≡ 3) member d.tail (All-weaker (All Word) _ (λ ws p. refl) d.tail sound.tail_fits))
-      (All-map (All Word) member d.tail (All-weaker (All Word) _ (λ ws p. (word_at ws 0 p, (placeholder_fits j s ready b, (omega arith, tt)))) d.tail sound.tail_fits))
+      (All-map (λ ws. length ws ≡ 3) member d.tail (All-weaker (AllByRecursion Word) _ (λ ws p. refl) d.tail sound.tail_fits))
+      (All-map (AllByRecursion Word) member d.tail (All-weaker (AllByRecursion Word) _ (λ ws p. (word_at ws 0 p, (placeholder_fits j s ready b, (omega arith, tt)))) d.tail sound.tail_fits))
 
   either_way : (b : Bool) (x y : Decl) → (b ≡ true → Sound x) → (b ≡ false → Sound y) → Sound (cond b x y)
   either_way b x y p q = cond_both b x y Sound p q

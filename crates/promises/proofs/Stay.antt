@@ -1,7 +1,7 @@
 -- Sizes and ends stay.
 use Rattle.std.proofs.Common.{◌≡◌, ℕ, zero, suc, ◌+◌, ◌<◌, ◌≤◌, true, not, List, [], ◌∷◌, ◌++◌, map, length, get_or, None, sym, refl, ap, ◌∙◌, subst, arith, length-append}
 use lib.ListN.{length-map}
-use Rattle.std.specs.List.{AllByRecursion as All}
+use Rattle.std.specs.List.{AllByRecursion}
 use Rattle.std.proofs.ByRecursion.{All-get_or}
 use Rattle.std.proofs.lemmas.List.{get_or_append_left, length_push}
 use Rattle.std.proofs.lemmas.Bool.{cond_both, cond-false, false≢true, and_parts, and_from, le-leb, not_from_true}
@@ -85,7 +85,7 @@ few_at [] g id = omega arith
 few_at (d ∷ ds) g zero = subst (λ (x : Decl). length x.tail ≤ 65535) (sym g.0) (omega arith)
 few_at (d ∷ ds) g (suc id) = few_among ds g.1 id
   where
-    few_among : (es : List Decl) → All Sound es → (k : ℕ) → length (decl_at es k).tail ≤ 65535
+    few_among : (es : List Decl) → AllByRecursion Sound es → (k : ℕ) → length (decl_at es k).tail ≤ 65535
     few_among [] p k = omega arith
     few_among (e ∷ es) p zero = few_elements e p.0
     few_among (e ∷ es) p (suc k) = few_among es p.1 k

@@ -1,6 +1,6 @@
 -- Walks over data kinds stay as they are.
 use Rattle.std.proofs.Common.{◌≡◌, ℕ, zero, suc, ◌+◌, ◌*◌, ◌<◌, ◌≤◌, true, cond, eqb, ltb, leb, List, [], ◌∷◌, length, get_or, Some, None, Option, sym, refl, ap, ◌∙◌, subst, arith}
-use Rattle.std.specs.List.{AllByRecursion as All}
+use Rattle.std.specs.List.{AllByRecursion}
 use Rattle.std.proofs.lemmas.Bool.{cond_both, cond-true, lt-ltb}
 use Rattle.layout.specs.declared.kind.BtfKind.{BtfKind}
 use Rattle.layout.specs.declared.kind.BtfKind.TheVariants.{Unknown, Int, Ptr, Array, Struct, Union, Enum, Fwd, Typedef, Volatile, Const, Restrict, Func, FuncProto, Var, DataSec, Float, DeclTag, TypeTag, Enum64}
@@ -62,18 +62,18 @@ module _ {S X : Type 0} (look : S → ℕ → Decl → Move S X) (ds es : List D
 
   -- on to the next declaration, if any
   goes : (left id links : ℕ) (m : Move S X) →
-      ((next : ℕ) (s' : S) → m ≡ onward next s' → All Data (reads look left ds s' next) → walk look left es asked (Some id) s' next (links + 1) ≡ walk look left ds asked (Some id) s' next (links + 1)) →
-      All Data (read_on m (λ next s'. reads look left ds s' next)) →
+      ((next : ℕ) (s' : S) → m ≡ onward next s' → AllByRecursion Data (reads look left ds s' next) → walk look left es asked (Some id) s' next (links + 1) ≡ walk look left ds asked (Some id) s' next (links + 1)) →
+      AllByRecursion Data (read_on m (λ next s'. reads look left ds s' next)) →
       moved m (λ next s'. walk look left es asked (Some id) s' next (links + 1)) (λ x. accepted (x, links)) ≡ moved m (λ next s'. walk look left ds asked (Some id) s' next (links + 1)) (λ x. accepted (x, links))
   goes left id links (onward next s') rest p = rest next s' refl p
   goes left id links (ends x) rest p = refl
   goes left id links (stuck r) rest p = refl
 
-  pub walk_steady : (left : ℕ) (holder : Option ℕ) (s : S) (id links : ℕ) → id < length ds → All Data (reads look left ds s id) →
+  pub walk_steady : (left : ℕ) (holder : Option ℕ) (s : S) (id links : ℕ) → id < length ds → AllByRecursion Data (reads look left ds s id) →
       walk look left es asked holder s id links ≡ walk look left ds asked holder s id links
   walk_steady zero holder s id links h p = walk_over es holder s id links ∙ sym (walk_over ds holder s id links)
   walk_steady (suc left) holder s id links h p =
-      let here = subst (All Data) (reads_here left s id h) p in
+      let here = subst (AllByRecursion Data) (reads_here left s id h) p in
       walk_here es left holder s id links (omega (arith, longer)) ∙
       ap (λ m. moved m (λ next s'. walk look left es asked (Some id) s' next (links + 1)) (λ x. accepted (x, links))) (same id h here.0 s) ∙
       goes left id links (look s id (decl_at ds id)) (λ next s' e q. walk_steady left (Some id) s' next (links + 1) (closed id h here.0 s next s' e) q) here.1 ∙
@@ -93,7 +93,7 @@ no_fault : {S X : Type 0} (r : Refusal) (b : ℕ) (s : S) → ◌≡◌ {A = Mov
 no_fault r b s e = let z : ◌≡◌ {A = ℕ} 0 1 = cc in omega arith
 
 module _ (d : Decl) (bound id next : ℕ) where
-  resolving_at : (k : BtfKind) (s : Unit {0}) → All (λ n. n < bound) (ids_at k d) → ◌≡◌ {A = Move (Unit {0}) ℕ} (cond (follows k) (onward d.third tt) (ends id)) (onward next s) → next < bound
+  resolving_at : (k : BtfKind) (s : Unit {0}) → AllByRecursion (λ n. n < bound) (ids_at k d) → ◌≡◌ {A = Move (Unit {0}) ℕ} (cond (follows k) (onward d.third tt) (ends id)) (onward next s) → next < bound
   resolving_at Unknown s p e = absurd (no_end id next s e)
   resolving_at Int s p e = absurd (no_end id next s e)
   resolving_at Ptr s p e = absurd (no_end id next s e)
@@ -115,7 +115,7 @@ module _ (d : Decl) (bound id next : ℕ) where
   resolving_at TypeTag s p e = omega (arith, p.0, onward_to d.third next tt s e)
   resolving_at Enum64 s p e = absurd (no_end id next s e)
 
-  pub resolving_closed : (s : Unit {0}) → All (λ n. n < bound) (own_ids d) → resolving tt id d ≡ onward next s → next < bound
+  pub resolving_closed : (s : Unit {0}) → AllByRecursion (λ n. n < bound) (own_ids d) → resolving tt id d ≡ onward next s → next < bound
   resolving_closed = resolving_at (decl_kind d)
 
   repeats_to : (n count : ℕ) → get_or d.extra 0 0 < bound → ◌≡◌ {A = Move ℕ ℕ} (product id n (λ m. onward (get_or d.extra 0 0) m)) (onward next count) → next < bound
@@ -128,7 +128,7 @@ module _ (d : Decl) (bound id next : ℕ) where
       cond_both (leb n greatest_word) _ _ (λ (m : Move ℕ ℕ). m ≡ onward next count → next < bound)
       (λ h e. absurd (no_end n next count e)) (λ h e. absurd (no_fault _ next count e))
 
-  measuring_at : (k : BtfKind) (width count count' : ℕ) → All (λ n. n < bound) (ids_at k d) → size_step (sizing k) width count id d ≡ onward next count' → next < bound
+  measuring_at : (k : BtfKind) (width count count' : ℕ) → AllByRecursion (λ n. n < bound) (ids_at k d) → size_step (sizing k) width count id d ≡ onward next count' → next < bound
   measuring_at Unknown width count count' p e = absurd (no_fault _ next count' e)
   measuring_at Int width count count' p e = ends_with (d.third * count) count' e
   measuring_at Ptr width count count' p e = ends_with (width * count) count' e
@@ -150,5 +150,5 @@ module _ (d : Decl) (bound id next : ℕ) where
   measuring_at TypeTag width count count' p e = omega (arith, p.0, onward_to d.third next count count' e)
   measuring_at Enum64 width count count' p e = ends_with (d.third * count) count' e
 
-  pub measuring_closed : (width count count' : ℕ) → All (λ n. n < bound) (own_ids d) → measuring width count id d ≡ onward next count' → next < bound
+  pub measuring_closed : (width count count' : ℕ) → AllByRecursion (λ n. n < bound) (own_ids d) → measuring width count id d ≡ onward next count' → next < bound
   measuring_closed = measuring_at (decl_kind d)

@@ -1,6 +1,6 @@
 -- Names in strings: what is added behind stays out of them, and what is added can be read.
 use Rattle.std.proofs.Common.{◌≡◌, ℕ, suc, ◌+◌, ◌%◌, ◌^◌, ◌<◌, true, cond, eqb, ltb, List, [], ◌∷◌, ◌++◌, map, length, take, drop, Some, None, codes, decimal, Option, sym, refl, ap, ◌∙◌, subst, inl, inr, arith, length-append}
-use Rattle.std.specs.List.{prefix_len, AllByRecursion as All}
+use Rattle.std.specs.List.{prefix_len, AllByRecursion}
 use Rattle.std.proofs.lemmas.Fmt.{decimal_by_steps}
 use Rattle.std.proofs.ByRecursion.{All-append, All-map, All-weaker}
 use Rattle.std.proofs.lemmas.List.{take_at, drop_at, take-append-le, drop-append-le, drop_all}
@@ -20,11 +20,11 @@ nonzero b h = not_from_false (eqb b 0) (ne_eqb b 0 (λ e. omega arith))
 abbrev front : List ℕ → Option (List ℕ)
 front r = cond (ltb (prefix_len named r) (length r)) (Some (take (prefix_len named r) r)) None
 
-leading_name : (name rest : List ℕ) → All Nonzero name → prefix_len named (name ++ 0 ∷ rest) ≡ length name
+leading_name : (name rest : List ℕ) → AllByRecursion Nonzero name → prefix_len named (name ++ 0 ∷ rest) ≡ length name
 leading_name [] rest p = refl
 leading_name (b ∷ name) rest p = cond-true (named b) (1 + prefix_len named (name ++ 0 ∷ rest)) 0 p.0 ∙ omega (arith, leading_name name rest p.1)
 
-front_name : (name rest : List ℕ) → All Nonzero name → front (name ++ 0 ∷ rest) ≡ Some name
+front_name : (name rest : List ℕ) → AllByRecursion Nonzero name → front (name ++ 0 ∷ rest) ≡ Some name
 front_name name rest p =
     let lead = leading_name name rest p in
     ap (λ n. cond (ltb n (length (name ++ 0 ∷ rest))) (Some (take n (name ++ 0 ∷ rest))) None) lead ∙
@@ -32,7 +32,7 @@ front_name name rest p =
     ap Some (take_at name (0 ∷ rest) (length name) refl)
 
 -- a name that was added can be read where it begins
-pub string_added : (xs name rest : List ℕ) → All Nonzero name → string_from (xs ++ (name ++ 0 ∷ rest)) (length xs) ≡ Some name
+pub string_added : (xs name rest : List ℕ) → AllByRecursion Nonzero name → string_from (xs ++ (name ++ 0 ∷ rest)) (length xs) ≡ Some name
 string_added xs name rest p = ap front (drop_at xs (name ++ 0 ∷ rest) (length xs) refl) ∙ front_name name rest p
 
 leading_kept : (r ys : List ℕ) → prefix_len named r < length r → prefix_len named (r ++ ys) ≡ prefix_len named r
@@ -70,23 +70,23 @@ string_kept xs ys offset name e =
     ]
 
 -- a name has no zero byte
-leading_all : (r : List ℕ) → All Nonzero (take (prefix_len named r) r)
+leading_all : (r : List ℕ) → AllByRecursion Nonzero (take (prefix_len named r) r)
 leading_all [] = tt
-leading_all (b ∷ r) = cond_both (named b) (1 + prefix_len named r) 0 (λ n. All Nonzero (take n (b ∷ r))) (λ e. subst (λ n. All Nonzero (take n (b ∷ r))) (sym one_more) (e, leading_all r)) (λ e. tt)
+leading_all (b ∷ r) = cond_both (named b) (1 + prefix_len named r) 0 (λ n. AllByRecursion Nonzero (take n (b ∷ r))) (λ e. subst (λ n. AllByRecursion Nonzero (take n (b ∷ r))) (sym one_more) (e, leading_all r)) (λ e. tt)
   where
     one_more : 1 + prefix_len named r ≡ suc (prefix_len named r)
     one_more = omega arith
 
-pub name_nonzero : (xs : List ℕ) (offset : ℕ) (name : List ℕ) → string_from xs offset ≡ Some name → All Nonzero name
-name_nonzero xs offset name e = subst (All Nonzero) (sym (front_is (drop offset xs) name e).1) (leading_all (drop offset xs))
+pub name_nonzero : (xs : List ℕ) (offset : ℕ) (name : List ℕ) → string_from xs offset ≡ Some name → AllByRecursion Nonzero name
+name_nonzero xs offset name e = subst (AllByRecursion Nonzero) (sym (front_is (drop offset xs) name e).1) (leading_all (drop offset xs))
 
 -- nor has one that is mapped, and nor have the names of parameters
-pub mapped_nonzero : (from to : ℕ) → 0 < to → (name : List ℕ) → All Nonzero name → All Nonzero (map (λ b. cond (eqb b from) to b) name)
+pub mapped_nonzero : (from to : ℕ) → 0 < to → (name : List ℕ) → AllByRecursion Nonzero name → AllByRecursion Nonzero (map (λ b. cond (eqb b from) to b) name)
 mapped_nonzero from to h name p =
     All-map Nonzero (λ b. cond (eqb b from) to b) name
     (All-weaker Nonzero (λ b. Nonzero (cond (eqb b from) to b)) (λ b q. cond_both (eqb b from) to b Nonzero (λ e. nonzero to h) (λ e. q)) name p)
 
-pub param_nonzero : (index : ℕ) → index < 2 ^ 64 → All Nonzero (param_name index)
+pub param_nonzero : (index : ℕ) → index < 2 ^ 64 → AllByRecursion Nonzero (param_name index)
 param_nonzero index h =
     All-append Nonzero (codes "param") (decimal index) (refl, (refl, (refl, (refl, (refl, tt)))))
-    (decimal_by_steps (λ n ds. All Nonzero ds) (λ n small. (nonzero (48 + n) (omega arith), tt)) (λ n ds large p. All-append Nonzero ds _ p (nonzero (48 + n % 10) (omega arith), tt)) index h)
+    (decimal_by_steps (λ n ds. AllByRecursion Nonzero ds) (λ n small. (nonzero (48 + n) (omega arith), tt)) (λ n ds large p. All-append Nonzero ds _ p (nonzero (48 + n % 10) (omega arith), tt)) index h)

@@ -1,7 +1,7 @@
 -- No refused kind is left.
 use Rattle.std.proofs.Common.{◌≡◌, ℕ, ◌+◌, ◌-◌, ◌<◌, ◌≤◌, max, Bool, true, false, cond, not, ◌&&◌, ◌||◌, eqb, ltb, List, [], ◌∷◌, ◌++◌, map, length, get_or, Some, None, Option, sym, refl, ap, ◌∙◌, subst, inl, inr, arith, length-append}
 use lib.ListN.{length-map}
-use Rattle.std.specs.List.{AllByRecursion as All}
+use Rattle.std.specs.List.{AllByRecursion}
 use Rattle.std.proofs.ByRecursion.{All-get_or, All-append, All-push}
 use Rattle.std.proofs.lemmas.List.{get_or-append_right}
 use Rattle.std.proofs.lemmas.Bool.{cond_both, cases_lt, and_right, or_from, not_from_true}
@@ -109,7 +109,7 @@ module _ (j : Job) (s : State) (d : Decl) (few : length d.tail ≤ 65535) where
 
 -- what is new is taken too: the filler's Var is made only where sections are granted
 abbrev MadeTaken : Job → State → Type 0
-MadeTaken j s = All (Taken j) s.made
+MadeTaken j s = AllByRecursion (Taken j) s.made
 
 made_placeholder : (j : Job) (s : State) (o : Option ℕ) → MadeTaken j s → MadeTaken j (with_placeholder j s o)
 made_placeholder j s (Some id) h = h

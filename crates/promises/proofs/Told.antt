@@ -1,6 +1,6 @@
 -- Equal words come from equal declarations: the second word of each tells how many words it has.
 use Rattle.std.proofs.Common.{◌≡◌, ℕ, List, [], ◌∷◌, ◌++◌, length, get_or, take, drop, sym, refl, ap, ◌∙◌, arith, length-append}
-use Rattle.std.specs.List.{flat_map, AllByRecursion as All}
+use Rattle.std.specs.List.{flat_map, AllByRecursion}
 use Rattle.std.proofs.lemmas.List.{take-append-drop}
 use Rattle.layout.specs.Info.{kind_of}
 use Rattle.layout.specs.Kinds.{extra_words, element_words}
@@ -56,7 +56,7 @@ module _ (d e : Decl) (s : Sound d) (r : Sound e) where
 has_words : (d : Decl) (ds : List Decl) → Sound d → [] ≡ type_words (d ∷ ds) → ⊥
 has_words d ds s e = omega (arith, length_words d s, length-append (decl_words d) (type_words ds), ap length e)
 
-pub same_decls : (ds es : List Decl) → All Sound ds → All Sound es → type_words ds ≡ type_words es → ds ≡ es
+pub same_decls : (ds es : List Decl) → AllByRecursion Sound ds → AllByRecursion Sound es → type_words ds ≡ type_words es → ds ≡ es
 same_decls [] [] p q w = refl
 same_decls [] (e ∷ es) p q w = absurd (has_words e es q.0 w)
 same_decls (d ∷ ds) [] p q w = absurd (has_words d ds p.0 (sym w))

@@ -1,7 +1,7 @@
 -- Each turn of a rewriting leaves a sound state, and the words add up.
 use Rattle.std.proofs.Common.{◌≡◌, ℕ, ◌+◌, ◌*◌, ◌≤◌, max, Bool, true, cond, ltb, List, [], ◌∷◌, ◌++◌, map, length, get_or, Some, None, Option, sym, refl, ap, ◌∙◌, subst, arith, length-append}
 use lib.ListN.{length-map}
-use Rattle.std.specs.List.{AllByRecursion as All}
+use Rattle.std.specs.List.{AllByRecursion}
 use Rattle.std.proofs.ByRecursion.{All-append, All-push}
 use Rattle.std.proofs.lemmas.List.{length_push}
 use Rattle.std.proofs.lemmas.Bool.{cond_both, lt-ltb, eqb-true, and_parts}
@@ -31,7 +31,7 @@ pub record SoundState (j : Job) (s : State) : Type 0 where
   pub ready : Ready j s
   pub some : ltb 0 (length s.done) ≡ true
   pub grown : Grown s.done
-  pub made : All Sound s.made
+  pub made : AllByRecursion Sound s.made
   pub made_count : length s.made ≡ one_if_made s.placeholder + 2 * one_if_made s.filler
   pub made_words : length (type_words s.made) ≡ 4 * one_if_made s.placeholder + 8 * one_if_made s.filler
 
@@ -262,12 +262,12 @@ words_turn j s d h sound fine bound =
     let d' = stand_in (decl_kind d) j s d in
     omega (arith, ap (λ l. length (type_words l)) (done_turn j s d), length_pushed s.done d', weighs j s d sound (decl_kind d) refl (stand_in_sound j s d h sound fine bound))
 
--- All turns.
+-- AllByRecursion turns.
 pub record Turned (j : Job) (s u : State) (ds : List Decl) : Type 0 where
   pub sound : SoundState j u
   pub words : length (type_words u.done) + 3 * s.filled ≡ length (type_words s.done) + length (type_words ds) + 3 * u.filled
 
-pub turned : (j : Job) (s : State) (ds : List Decl) → SoundState j s → All Sound ds → sections_from j (length s.done) ds ≡ None → Bounded j (turns j s ds) → Turned j s (turns j s ds) ds
+pub turned : (j : Job) (s : State) (ds : List Decl) → SoundState j s → AllByRecursion Sound ds → sections_from j (length s.done) ds ≡ None → Bounded j (turns j s ds) → Turned j s (turns j s ds) ds
 turned j s [] h p fine b = record { sound = h; words = omega arith }
 turned j s (d ∷ ds) h p fine b =
     let next = turn j s d in

@@ -1,6 +1,6 @@
 -- A whole rewriting leaves a sound table, and its words add up to what it answered.
 use Rattle.std.proofs.Common.{◌≡◌, ℕ, ◌+◌, ◌*◌, true, ltb, List, [], ◌∷◌, ◌++◌, length, None, sym, refl, ap, ◌∙◌, subst, arith, length-append, length-take}
-use Rattle.std.specs.List.{AllByRecursion as All}
+use Rattle.std.specs.List.{AllByRecursion}
 use Rattle.std.proofs.ByRecursion.{All-append, All-weaker}
 use Rattle.std.proofs.lemmas.Bool.{false≢true, and_parts, leb-true}
 use Rattle.meaning.specs.Table.{Decl, Table, void, text, holds}
@@ -18,7 +18,7 @@ use Rattle.promises.proofs.Standing.{Bounded}
 use Rattle.promises.proofs.Turning.{SoundState, turned}
 
 -- id 0 stays as it is
-first_sound : (j : Job) → All (λ d. Word d.name) j.decls → SoundState j (stands begun void)
+first_sound : (j : Job) → AllByRecursion (λ d. Word d.name) j.decls → SoundState j (stands begun void)
 first_sound j names = record {
   ready = record {
     old_names = names;
@@ -33,11 +33,11 @@ first_sound j names = record {
   made_words = refl;
 }
 
-pub grown_names : (ds : List Decl) → Grown ds → All (λ d. Word d.name) ds
+pub grown_names : (ds : List Decl) → Grown ds → AllByRecursion (λ d. Word d.name) ds
 grown_names [] g = tt
 grown_names (d ∷ ds) g = (subst (λ (x : Decl). Word x.name) (sym g.0) (omega arith), All-weaker Sound (λ x. Word x.name) (λ x s. s.name_fits) ds g.1)
 
-grown_append : (ds es : List Decl) → ltb 0 (length ds) ≡ true → Grown ds → All Sound es → Grown (ds ++ es)
+grown_append : (ds es : List Decl) → ltb 0 (length ds) ≡ true → Grown ds → AllByRecursion Sound es → Grown (ds ++ es)
 grown_append [] es h g s = absurd (false≢true h)
 grown_append (v ∷ ds) es h g s = (g.0, All-append Sound ds es g.1 s)
 
@@ -47,7 +47,7 @@ pub record Ended (j : Job) (s : State) : Type 0 where
   pub words : length (type_words s.done) ≡ length (type_words j.decls) + 3 * s.filled
   pub count : length s.done ≡ length j.decls
 
-ended_from : (j : Job) (ds : List Decl) → ltb 0 (length ds) ≡ true → Grown ds → All (λ d. Word d.name) j.decls → sections_from j 0 ds ≡ None → Bounded j (turns j begun ds) →
+ended_from : (j : Job) (ds : List Decl) → ltb 0 (length ds) ≡ true → Grown ds → AllByRecursion (λ d. Word d.name) j.decls → sections_from j 0 ds ≡ None → Bounded j (turns j begun ds) →
     SoundState j (turns j begun ds) × (length (type_words (turns j begun ds).done) ≡ length (type_words ds) + 3 * (turns j begun ds).filled)
 ended_from j [] h g names fine b = absurd (false≢true h)
 ended_from j (v ∷ rest) h g names fine b =

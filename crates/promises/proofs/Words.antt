@@ -1,6 +1,6 @@
 -- The words of sound declarations.
 use Rattle.std.proofs.Common.{◌≡◌, ℕ, ◌+◌, ◌*◌, ◌≤◌, cond, eqb, List, [], ◌∷◌, ◌++◌, length, take, refl, ap, ◌∙◌, arith, length-append, length-take}
-use Rattle.std.specs.List.{flat_map, AllByRecursion as All}
+use Rattle.std.specs.List.{flat_map, AllByRecursion}
 use Rattle.std.proofs.lemmas.Nat.{mul-le}
 use Rattle.std.proofs.ByRecursion.{All-append, All-take, All-weaker}
 use Rattle.std.proofs.lemmas.List.Sums.{sum_by-cons}
@@ -30,7 +30,7 @@ module _ (d : Decl) (s : Sound d) where
       let tails = length_joined (λ e. e) (element_words s.kind) (λ ws. length ws ≡ element_words s.kind) (λ ws p. p) d.tail s.widths in
       ap length words_are ∙ omega (arith, length_extra, rest, tails)
 
-  pub words_fit : All Word (decl_words d)
+  pub words_fit : AllByRecursion Word (decl_words d)
   words_fit =
       let extras = All-take Word (extra_words s.kind) d.extra s.extra_fits in
       let tails = all_joined (λ e. e) Word d.tail s.tail_fits in
@@ -40,8 +40,8 @@ module _ (d : Decl) (s : Sound d) where
   pub few_words : length (decl_words d) ≤ 6 + 3 * length d.tail
   few_words = omega (arith, length_words, extra_small s.kind, mul-le (element_words s.kind) (length d.tail) 3 (length d.tail) (element_small s.kind) (omega arith))
 
-pub type_words_fit : (ds : List Decl) → All Sound ds → All Word (type_words ds)
-type_words_fit ds p = all_joined decl_words Word ds (All-weaker Sound (λ d. All Word (decl_words d)) words_fit ds p)
+pub type_words_fit : (ds : List Decl) → AllByRecursion Sound ds → AllByRecursion Word (type_words ds)
+type_words_fit ds p = all_joined decl_words Word ds (All-weaker Sound (λ d. AllByRecursion Word (decl_words d)) words_fit ds p)
 
 pub length_pushed : (ds : List Decl) (d : Decl) → length (type_words (ds ++ d ∷ [])) ≡ length (type_words ds) + length (decl_words d)
 length_pushed ds d = ap length (joined_push decl_words ds d) ∙ length-append (type_words ds) (decl_words d)
@@ -58,6 +58,6 @@ length_stated d s =
     ap (λ j. cond (eqb (kind_number j) 0) 0 (12 + 4 * extra_words j + 4 * element_words j * low_of d.info)) s.kind_is in
     by_kind ∙ cond-false (eqb (kind_number k) 0) 0 _ s.known ∙ omega (arith, length_words d s, element_total (element_words k) (low_of d.info) (length d.tail) s.counted)
 
-pub types_stated : (ds : List Decl) → All Sound ds → type_bytes ds ≡ word_bytes ds
+pub types_stated : (ds : List Decl) → AllByRecursion Sound ds → type_bytes ds ≡ word_bytes ds
 types_stated [] p = refl
 types_stated (d ∷ ds) p = omega (arith, sum_by-cons (λ x. type_length x.info) d ds, length_stated d p.0, types_stated ds p.1, length-append (decl_words d) (type_words ds))

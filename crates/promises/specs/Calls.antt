@@ -1,6 +1,6 @@
 -- Lists of calls on a table: adding, asking and encoding, in any order and number, accepted or refused.
 use Rattle.std.specs.Prelude.{◌≡◌, ℕ, ◌+◌, ◌*◌, ◌^◌, ◌<◌, Bool, true, List, [], ◌∷◌, length, None}
-use Rattle.std.specs.List.{AllByRecursion as All}
+use Rattle.std.specs.List.{AllByRecursion}
 use Rattle.order.specs.Order.{Order}
 use Rattle.layout.specs.Kinds.{kind_at, extra_words, element_words, pointer_bytes}
 use Rattle.layout.specs.Refusals.{Answer, accepted, refused}
@@ -22,7 +22,7 @@ pub record Given : Type 0 where
   pub declaration : Declaration
   pub name_fits : Word declaration.name_offset
   pub third_fits : Word declaration.size_or_type
-  pub extra_fits : All Word declaration.extra
+  pub extra_fits : AllByRecursion Word declaration.extra
 
 -- elements of any type that keeps the law of element types: all have equally many words, at least one, and as many as each kind that the type serves asks for
 pub record Elements : Type 0 where
@@ -31,8 +31,8 @@ pub record Elements : Type 0 where
   pub wide : 0 < width
   pub suits : (k : BtfKind) → serving k ≡ true → element_words k ≡ width
   pub items : List (List ℕ)
-  pub counted : All (λ ws. length ws ≡ width) items
-  pub items_fit : All (All Word) items
+  pub counted : AllByRecursion (λ ws. length ws ≡ width) items
+  pub items_fit : AllByRecursion (AllByRecursion Word) items
 
 pub data Question : Type 0 where
   string_of : ℕ → Question

@@ -1,7 +1,7 @@
 -- Worked examples: on the left what the definitions give, on the right what it should be.
 use Rattle.std.specs.Prelude.{◌≡◌, ℕ, zero, suc, ◌^◌, ◌<◌, true, false, List, [], ◌∷◌, ◌++◌, replicate, Some, None, codes, slice_index}
 use Rattle.std.proofs.Common.{arith, lit<}
-use Rattle.std.specs.List.{AllByRecursion as All}
+use Rattle.std.specs.List.{AllByRecursion}
 use Rattle.order.specs.Built.{little}
 use Rattle.layout.specs.declared.kind.BtfKind.{BtfKind}
 use Rattle.layout.specs.declared.kind.BtfKind.TheVariants.{Int, Array, Const}
@@ -28,7 +28,7 @@ abbrev pub no_elements : Elements
 no_elements = record { width = 1; serving = λ k. false; wide = lit< tt; suits = none_served; items = []; counted = tt; items_fit = tt }
 
 -- a declaration without flag, linkage and elements
-abbrev pub adds : (name : ℕ) (kind : BtfKind) (third : ℕ) (extra : List ℕ) → Word name → Word third → All Word extra → Call
+abbrev pub adds : (name : ℕ) (kind : BtfKind) (third : ℕ) (extra : List ℕ) → Word name → Word third → AllByRecursion Word extra → Call
 adds name kind third extra p q r =
     adds_type (record { declaration = declared name kind false 0 third extra; name_fits = p; third_fits = q; extra_fits = r }) no_elements
 
@@ -88,4 +88,4 @@ examples =
     (reply (ask (run with_int (arrays 65536 65536 (lit< tt) (lit< tt))) (size_of 3 Eight)), reply (walked (refused (refusal 9 (Some 2) None (Some 4294967296))))) ∷ []
 
 abbrev pub ExamplesHold : Type 0
-ExamplesHold = All (λ p. p.0 ≡ p.1) examples
+ExamplesHold = AllByRecursion (λ p. p.0 ≡ p.1) examples

@@ -1,6 +1,6 @@
 -- Data kinds, the declarations that a walk reads, and the kinds that a kernel refuses.
 use Rattle.std.specs.Prelude.{◌≡◌, ℕ, zero, suc, Bool, true, false, cond, not, ◌&&◌, ◌||◌, List, [], ◌∷◌, length, ◌==◌, nat_lt}
-use Rattle.std.specs.List.{AllByRecursion as All}
+use Rattle.std.specs.List.{AllByRecursion}
 use Rattle.layout.specs.Info.{low_of, flag_of}
 use Rattle.layout.specs.declared.kind.BtfKind.{BtfKind}
 use Rattle.layout.specs.declared.kind.BtfKind.TheVariants.{Unknown, Int, Ptr, Array, Struct, Union, Enum, Fwd, Typedef, Volatile, Const, Restrict, Func, FuncProto, Var, DataSec, Float, DeclTag, TypeTag, Enum64}
@@ -46,7 +46,7 @@ reads look (suc left) ds s id =
 
 -- a walk meets data kinds only
 abbrev pub DataOnly : {S X : Type 0} → (S → ℕ → Decl → Move S X) → List Decl → S → ℕ → Type 0
-DataOnly look ds s id = All (λ d. data_kind (decl_kind d) ≡ true) (reads look most_reads ds s id)
+DataOnly look ds s id = AllByRecursion (λ d. data_kind (decl_kind d) ≡ true) (reads look most_reads ds s id)
 
 -- whether a kernel with these features refuses a declaration of a kind, by its flag, its low bits and its count of elements
 abbrev pub kind_refused : (BtfFeature → Bool) → BtfKind → Bool → ℕ → ℕ → Bool

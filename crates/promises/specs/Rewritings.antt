@@ -1,7 +1,7 @@
 -- Worked examples of rewritings: on the left what the definitions give, on the right what it should be.
 use Rattle.std.specs.Prelude.{◌≡◌, ℕ, Bool, true, false, not, List, [], ◌∷◌, map, replicate, Some, None, codes, Option}
 use Rattle.std.proofs.Common.{lit<}
-use Rattle.std.specs.List.{AllByRecursion as All}
+use Rattle.std.specs.List.{AllByRecursion}
 use Rattle.order.specs.Built.{little}
 use Rattle.layout.specs.declared.kind.BtfKind.{BtfKind}
 use Rattle.layout.specs.declared.kind.BtfKind.TheVariants.{Unknown, Int, Ptr, Struct, Const, Var, DataSec, Float}
@@ -139,4 +139,4 @@ rewritings =
     (reply (ask (left_by_all (run new float_calls) (rewrites (asking [] nothing_granted) ∷ map calls float_calls)) (size_of 2 Eight)), reply (walked (accepted (8, 1)))) ∷ []
 
 abbrev pub RewritingsHold : Type 0
-RewritingsHold = All (λ p. p.0 ≡ p.1) rewritings
+RewritingsHold = AllByRecursion (λ p. p.0 ≡ p.1) rewritings
