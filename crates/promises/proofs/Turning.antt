@@ -262,7 +262,7 @@ words_turn j s d h sound fine bound =
     let d' = stand_in (decl_kind d) j s d in
     omega (arith, ap (λ l. length (type_words l)) (done_turn j s d), length_pushed s.done d', weighs j s d sound (decl_kind d) refl (stand_in_sound j s d h sound fine bound))
 
--- AllByRecursion turns.
+-- All turns.
 pub record Turned (j : Job) (s u : State) (ds : List Decl) : Type 0 where
   pub sound : SoundState j u
   pub words : length (type_words u.done) + 3 * s.filled ≡ length (type_words s.done) + length (type_words ds) + 3 * u.filled
