@@ -1,12 +1,9 @@
 // Times a table: how long it takes to build, to encode, to search and to walk, beside a plain copy of the
-// file's bytes. It is no test, so without an argument it only says how it is used. To run it by hand:
+// file's bytes. It is no test, so without an argument it only says how it is used. To run it by hand, in this
+// crate's folder:
 //
-//     rt check bench
-//     target/bin/bench all
-//     target/bin/bench 1000 50000
-//
-// `rt check` links the program to target/bin/bench. `rt try bench` passes the words of a file crates/bench/args,
-// one to a line, but shows none of what the program prints.
+//     rt run -- all
+//     rt run -- 1000 50000
 #![tactic(auto)]
 
 mod fault;
