@@ -1,6 +1,7 @@
 -- Equal files come from equal tables.
-use Rattle.std.proofs.Common.{◌≡◌, ℕ, ◌*◌, Bool, true, false, ltb, List, [], ◌∷◌, ◌++◌, length, sym, refl, ap, ◌∙◌, subst, append_assoc, arith}
+use Rattle.std.proofs.Common.{◌≡◌, ℕ, ◌*◌, Bool, true, false, ltb, List, [], ◌∷◌, ◌++◌, length, sym, refl, ap, ◌∙◌, subst, append_assoc, arith, ◌≤◌, sum_by, ◌+◌}
 use Rattle.std.specs.List.{AllByRecursion}
+use Rattle.std.proofs.lemmas.List.Sums.{sum_by-cons}
 use Rattle.std.proofs.lemmas.Bool.{false≢true, and_parts}
 use Rattle.order.specs.Order.{Order}
 use Rattle.layout.specs.Refusals.{accepted}
@@ -12,9 +13,9 @@ use Rattle.promises.specs.Acts.{last_table}
 use Rattle.promises.specs.Lasting.{encoding, RewrittenAlike, OneEncodingOneTable}
 use Rattle.promises.specs.Calls.{Question, ask}
 use Rattle.promises.proofs.Parts.{same_parts}
-use Rattle.promises.proofs.Sound.{Grown, SoundTable}
+use Rattle.promises.proofs.Sound.{Grown, SoundTable, tail_length}
 use Rattle.promises.proofs.Steps.{sound_made, sound_run, sound_last}
-use Rattle.promises.proofs.Words.{word_bytes, type_words_fit, types_stated}
+use Rattle.promises.proofs.Words.{word_bytes, type_words_fit, few_type_words, types_stated}
 use Rattle.promises.proofs.Told.{same_decls}
 use Rattle.promises.proofs.Coded.{length_coded, same_coded, length_header, same_types}
 use Rattle.promises.proofs.Asked.{same_answers, no_answers}
@@ -28,6 +29,10 @@ wordless d ds e = ap (λ v. type_words (v ∷ ds)) e
 pub grown_fit : (ds : List Decl) → Grown ds → AllByRecursion Word (type_words ds)
 grown_fit [] g = tt
 grown_fit (d ∷ ds) g = subst (AllByRecursion Word) (sym (wordless d ds g.0)) (type_words_fit ds g.1)
+
+grown_few : (ds : List Decl) → Grown ds → length (type_words ds) ≤ 6 * length ds + 3 * sum_by tail_length ds
+grown_few [] g = omega arith
+grown_few (d ∷ ds) g = omega (arith, ap length (wordless d ds g.0), few_type_words ds g.1, sum_by-cons tail_length d ds)
 
 grown_same : (ds es : List Decl) → ltb 0 (length ds) ≡ true → ltb 0 (length es) ≡ true → Grown ds → Grown es → type_words ds ≡ type_words es → ds ≡ es
 grown_same [] es h k g j w = absurd (false≢true h)

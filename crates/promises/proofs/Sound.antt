@@ -1,5 +1,5 @@
 -- What holds of the declarations of a table that calls have made.
-use Rattle.std.proofs.Common.{◌≡◌, ◌+◌, ◌-◌, ◌*◌, ◌≤◌, true, false, cond, eqb, ltb, List, [], ◌∷◌, ◌++◌, length, drop, replicate}
+use Rattle.std.proofs.Common.{◌≡◌, ◌+◌, ◌-◌, ◌*◌, ◌≤◌, true, false, cond, eqb, ltb, List, [], ◌∷◌, ◌++◌, length, drop, replicate, ℕ}
 use Rattle.std.specs.List.{AllByRecursion}
 use Rattle.std.proofs.ByRecursion.{All-push}
 use Rattle.std.proofs.lemmas.Bool.{false≢true}
@@ -30,6 +30,9 @@ pub record Sound (d : Decl) : Type 0 where
 abbrev pub Grown : List Decl → Type 0
 Grown [] = Unit {0}
 Grown (d ∷ ds) = (d ≡ void) × AllByRecursion Sound ds
+
+abbrev pub tail_length : Decl → ℕ
+tail_length d = length d.tail
 
 -- one more behind them
 pub grown_push : (ds : List Decl) (d : Decl) → ltb 0 (length ds) ≡ true → Grown ds → Sound d → Grown (ds ++ d ∷ [])

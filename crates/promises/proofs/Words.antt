@@ -1,5 +1,5 @@
 -- The words of sound declarations.
-use Rattle.std.proofs.Common.{◌≡◌, ℕ, ◌+◌, ◌*◌, ◌≤◌, cond, eqb, List, [], ◌∷◌, ◌++◌, length, take, refl, ap, ◌∙◌, arith, length-append, length-take}
+use Rattle.std.proofs.Common.{◌≡◌, ℕ, ◌+◌, ◌*◌, ◌≤◌, cond, eqb, List, [], ◌∷◌, ◌++◌, length, take, refl, ap, ◌∙◌, arith, length-append, length-take, sum_by}
 use Rattle.std.specs.List.{flat_map, AllByRecursion}
 use Rattle.std.proofs.lemmas.Nat.{mul-le}
 use Rattle.std.proofs.ByRecursion.{All-append, All-take, All-weaker}
@@ -13,7 +13,7 @@ use Rattle.meaning.proofs.Lengths.{element_total}
 use Rattle.promises.specs.Calls.{Word}
 use Rattle.promises.proofs.Infos.{extra_small, element_small}
 use Rattle.promises.proofs.Parts.{length_joined, all_joined, joined_push}
-use Rattle.promises.proofs.Sound.{Sound}
+use Rattle.promises.proofs.Sound.{Sound, tail_length}
 
 module _ (d : Decl) (s : Sound d) where
   pub words_are : decl_words d ≡ d.name ∷ d.info ∷ d.third ∷ (take (extra_words s.kind) d.extra ++ flat_map (λ e. e) d.tail)
@@ -42,6 +42,10 @@ module _ (d : Decl) (s : Sound d) where
 
 pub type_words_fit : (ds : List Decl) → AllByRecursion Sound ds → AllByRecursion Word (type_words ds)
 type_words_fit ds p = all_joined decl_words Word ds (All-weaker Sound (λ d. AllByRecursion Word (decl_words d)) words_fit ds p)
+
+pub few_type_words : (ds : List Decl) → AllByRecursion Sound ds → length (type_words ds) ≤ 6 * length ds + 3 * sum_by tail_length ds
+few_type_words [] p = omega arith
+few_type_words (d ∷ ds) p = omega (arith, length-append (decl_words d) (type_words ds), few_words d p.0, few_type_words ds p.1, sum_by-cons tail_length d ds)
 
 pub length_pushed : (ds : List Decl) (d : Decl) → length (type_words (ds ++ d ∷ [])) ≡ length (type_words ds) + length (decl_words d)
 length_pushed ds d = ap length (joined_push decl_words ds d) ∙ length-append (type_words ds) (decl_words d)
