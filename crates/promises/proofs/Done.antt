@@ -20,12 +20,12 @@ use Rattle.promises.specs.Rewritten.{Shows, OneByteInt, NewInt, NewFiller, Respe
 use Rattle.promises.specs.Acts.{last_table}
 use Rattle.promises.specs.Lasting.{RulesDone}
 use Rattle.promises.proofs.Parts.{cond_both₂}
-use Rattle.promises.proofs.Sound.{SoundTable}
+use Rattle.promises.proofs.Sound.{BoundedTable}
 use Rattle.promises.proofs.Kept.{kind_kept, flag_kept}
 use Rattle.promises.proofs.States.{Begins, begins_on, begins_same, Later, later_on, later_filler, later_params, later_stands, later_turn, length_turns}
 use Rattle.promises.proofs.Passed.{Passed, when_accepted, Closed, closed_passed, EntryPassed, SectionPassed, section_passed, section_at}
 use Rattle.promises.proofs.Standing.{length_named}
-use Rattle.promises.proofs.Steps.{sound_last}
+use Rattle.promises.proofs.Acted.{bounded_last}
 use Rattle.promises.proofs.Whole.{bytes_length, all_ended}
 use Rattle.promises.proofs.Alike.{text_rewritten}
 use Rattle.promises.proofs.Stay.{few_at, old_at, old_in_front}
@@ -129,7 +129,7 @@ builtin_tells name (inr (inl e)) = subst (λ (l : List ℕ). is_builtin l ≡ tr
 builtin_tells name (inr (inr (inl e))) = subst (λ (l : List ℕ). is_builtin l ≡ true) (sym e) refl
 builtin_tells name (inr (inr (inr e))) = subst (λ (l : List ℕ). is_builtin l ≡ true) (sym e) refl
 
-module _ (t : Table) (q : Request) (passed : Passed t q) (sound : SoundTable t) where
+module _ (t : Table) (q : Request) (passed : Passed t q) (sound : BoundedTable t) where
   abbrev j : Job
   j = job t q
 
@@ -496,6 +496,6 @@ module _ (t : Table) (q : Request) (passed : Passed t q) (sound : SoundTable t) 
 pub rules_done : RulesDone
 rules_done history q n e =
     let t = last_table history in
-    let sound : SoundTable t = sound_last history in
+    let sound : BoundedTable t = bounded_last history in
     let is = when_accepted t q n e in
     subst₂ (λ (v : Table) (m : Tallies). Rewritten q t v m) (sym is.later_is) (sym is.tallies) (rewritten t q is.passed sound)

@@ -13,8 +13,9 @@ use Rattle.promises.specs.Acts.{last_table}
 use Rattle.promises.specs.Lasting.{encoding, RewrittenAlike, OneEncodingOneTable}
 use Rattle.promises.specs.Calls.{Question, ask}
 use Rattle.promises.proofs.Parts.{same_parts}
-use Rattle.promises.proofs.Sound.{Grown, SoundTable, tail_length}
-use Rattle.promises.proofs.Steps.{sound_made, sound_run, sound_last}
+use Rattle.promises.proofs.Sound.{Grown, SoundTable, BoundedTable, tail_length}
+use Rattle.promises.proofs.Steps.{sound_made, sound_run}
+use Rattle.promises.proofs.Acted.{bounded_last}
 use Rattle.promises.proofs.Words.{word_bytes, type_words_fit, few_type_words, types_stated}
 use Rattle.promises.proofs.Told.{same_decls}
 use Rattle.promises.proofs.Coded.{length_coded, same_coded, length_header, same_types}
@@ -48,10 +49,13 @@ grown_stated (d ∷ ds) g =
     ap (λ v. type_bytes (v ∷ ds)) g.0 ∙ types_stated ds g.1 ∙ ap (λ ws. 4 * length ws) (sym (wordless d ds g.0))
 
 -- the areas are bounded, so the type part's length is a word
-type_bytes_fit : (t : Table) → SoundTable t → Word (type_bytes t.decls)
+type_bytes_fit : (t : Table) → BoundedTable t → Word (type_bytes t.decls)
 type_bytes_fit t s = omega (arith, s.few_words, grown_stated t.decls s.grown)
 
-module _ (o : Order) (t u : Table) (s : SoundTable t) (r : SoundTable u) where
+sound_bounded : (t : Table) → SoundTable t → BoundedTable t
+sound_bounded t s = record { grown = s.grown; few_words = omega (arith, grown_few t.decls s.grown, s.counts); few_elements = s.few_elements; few_decls = s.few_decls }
+
+module _ (o : Order) (t u : Table) (s : BoundedTable t) (r : BoundedTable u) where
   pub same_file : holds t ≡ true → holds u ≡ true → file o t ≡ file o u → (t.decls ≡ u.decls) × (text t ≡ text u)
   same_file h k same =
       let begins : Table → List ℕ = λ v. header o (type_bytes v.decls) v.strings in
@@ -67,7 +71,7 @@ module _ (o : Order) (t u : Table) (s : SoundTable t) (r : SoundTable u) where
       (grown_same t.decls u.decls (and_parts _ _ h).0 (and_parts _ _ k).0 s.grown r.grown words, behind.1)
 
 -- equal encodings: both tables hold something, and then the same, or neither does
-module _ (o : Order) (t u : Table) (s : SoundTable t) (r : SoundTable u) where
+module _ (o : Order) (t u : Table) (s : BoundedTable t) (r : BoundedTable u) where
   abbrev Alike : Type 0
   Alike = ((q : Question) → ask t q ≡ ask u q) × RewrittenAlike t u × (holds t ≡ true → (t.decls ≡ u.decls) × (text t ≡ text u))
 
@@ -84,10 +88,10 @@ pub one_file_one_table : OneFileOneTable
 one_file_one_table o r s h k same =
     let t = table r in
     let u = table s in
-    let sound : (v : Reached) → SoundTable (table v) = λ v. sound_run (fresh v) v.calls (sound_made v.decl_room v.element_room v.area) in
-    let equal = same_file o t u (sound r) (sound s) h k same in
+    let bounded : (v : Reached) → BoundedTable (table v) = λ v. sound_bounded (table v) (sound_run (fresh v) v.calls (sound_made v.decl_room v.element_room v.area)) in
+    let equal = same_file o t u (bounded r) (bounded s) h k same in
     (equal.0, equal.1, same_answers t u h k equal.0 equal.1)
 
 pub one_encoding_one_table : OneEncodingOneTable
 one_encoding_one_table o g h same =
-    alike o (last_table g) (last_table h) (sound_last g) (sound_last h) (holds (last_table g)) (holds (last_table h)) refl refl same
+    alike o (last_table g) (last_table h) (bounded_last g) (bounded_last h) (holds (last_table g)) (holds (last_table h)) refl refl same

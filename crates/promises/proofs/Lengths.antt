@@ -12,8 +12,9 @@ use Rattle.promises.specs.Acts.{Act, calls, rewrites, left_by, left_by_all, tall
 use Rattle.promises.specs.Promises.{fresh, table, LengthAddsUp}
 use Rattle.promises.specs.Lasting.{LengthsAddUp}
 use Rattle.promises.proofs.Declared.{sound_declared, kind_declared}
-use Rattle.promises.proofs.Steps.{by_outcome, by_string, fine_declared, sound_made, sound_run, sound_act, sound_first, sound_last}
-use Rattle.promises.proofs.Sound.{SoundTable}
+use Rattle.promises.proofs.Steps.{by_outcome, by_string, fine_declared, sound_made, sound_run}
+use Rattle.promises.proofs.Acted.{bounded_act, bounded_first, bounded_last}
+use Rattle.promises.proofs.Sound.{Grown, BoundedTable}
 use Rattle.promises.proofs.Passed.{by_rewriting}
 use Rattle.promises.proofs.Whole.{words_rewritten}
 use Rattle.promises.proofs.Coded.{length_coded}
@@ -43,30 +44,30 @@ length_run : (t : Table) (cs : List Call) → word_bytes (run t cs).decls ≡ wo
 length_run t [] = omega arith
 length_run t (c ∷ cs) = omega (arith, length_run (step t c) cs, length_step t c)
 
-length_act : (t : Table) (a : Act) → SoundTable t → word_bytes (left_by t a).decls ≡ word_bytes t.decls + gained_by t a
+length_act : (t : Table) (a : Act) → BoundedTable t → word_bytes (left_by t a).decls ≡ word_bytes t.decls + gained_by t a
 length_act t (calls c) s = length_step t c
 length_act t (rewrites q) s =
     by_rewriting t q (λ o. word_bytes o.later.decls ≡ word_bytes t.decls + tally_bytes o.answer) (λ r. omega arith) (λ p. omega (arith, words_rewritten t q s p))
 
-length_acts : (t : Table) (acts : List Act) → SoundTable t → word_bytes (left_by_all t acts).decls ≡ word_bytes t.decls + gained t acts
+length_acts : (t : Table) (acts : List Act) → BoundedTable t → word_bytes (left_by_all t acts).decls ≡ word_bytes t.decls + gained t acts
 length_acts t [] s = omega arith
-length_acts t (a ∷ acts) s = omega (arith, length_acts (left_by t a) acts (sound_act t a s), length_act t a s)
+length_acts t (a ∷ acts) s = omega (arith, length_acts (left_by t a) acts (bounded_act t a s), length_act t a s)
 
 -- a new table has id 0 alone, or nothing
 length_made : (decl_room element_room : ℕ) (area : List ℕ) → word_bytes (made decl_room element_room area).decls ≡ 0
 length_made decl_room element_room area = cond_both (ltb 0 decl_room && ltb 0 (length area)) _ _ (λ (t : Table). word_bytes t.decls ≡ 0) (λ e. refl) (λ e. refl)
 
 -- the type part has as many bytes as its words, and the header says so
-stated : (o : Order) (t : Table) (n : ℕ) → SoundTable t → word_bytes t.decls ≡ n → (length (type_part o t.decls) ≡ n) × (type_bytes t.decls ≡ n)
-stated o t n s words = (length_coded o (type_words t.decls) (grown_fit t.decls s.grown) ∙ words, grown_stated t.decls s.grown ∙ words)
+stated : (o : Order) (t : Table) (n : ℕ) → Grown t.decls → word_bytes t.decls ≡ n → (length (type_part o t.decls) ≡ n) × (type_bytes t.decls ≡ n)
+stated o t n g words = (length_coded o (type_words t.decls) (grown_fit t.decls g) ∙ words, grown_stated t.decls g ∙ words)
 
 pub length_adds_up : LengthAddsUp
 length_adds_up o r =
     let made_bytes = length_made r.decl_room r.element_room r.area in
-    stated o (table r) (added (fresh r) r.calls) (sound_run (fresh r) r.calls (sound_made r.decl_room r.element_room r.area))
+    stated o (table r) (added (fresh r) r.calls) (sound_run (fresh r) r.calls (sound_made r.decl_room r.element_room r.area)).grown
     (omega (arith, length_run (fresh r) r.calls, made_bytes))
 
 pub lengths_add_up : LengthsAddUp
 lengths_add_up o h =
     let made_bytes = length_made h.decl_room h.element_room h.area in
-    stated o (last_table h) (gained (first_table h) h.acts) (sound_last h) (omega (arith, length_acts (first_table h) h.acts (sound_first h), made_bytes))
+    stated o (last_table h) (gained (first_table h) h.acts) (bounded_last h).grown (omega (arith, length_acts (first_table h) h.acts (bounded_first h), made_bytes))

@@ -9,6 +9,7 @@ pub mod Standing
 pub mod Turning
 pub mod Whole
 pub mod Steps
+pub mod Acted
 pub mod Words
 pub mod Steady
 pub mod Lengths

@@ -1,5 +1,5 @@
 -- What holds of the declarations of a table that calls have made.
-use Rattle.std.proofs.Common.{◌≡◌, ◌+◌, ◌-◌, ◌*◌, ◌≤◌, true, false, cond, eqb, ltb, List, [], ◌∷◌, ◌++◌, length, drop, replicate, ℕ}
+use Rattle.std.proofs.Common.{◌≡◌, ◌+◌, ◌-◌, ◌*◌, ◌≤◌, true, false, cond, eqb, ltb, List, [], ◌∷◌, ◌++◌, length, drop, replicate, ℕ, sum_by}
 use Rattle.std.specs.List.{AllByRecursion}
 use Rattle.std.proofs.ByRecursion.{All-push}
 use Rattle.std.proofs.lemmas.Bool.{false≢true}
@@ -40,6 +40,13 @@ grown_push [] d h g s = absurd (false≢true h)
 grown_push (v ∷ ds) d h g s = (g.0, All-push Sound ds d g.1 s)
 
 pub record SoundTable (t : Table) : Type 0 where
+  pub grown : Grown t.decls
+  pub counts : t.elements ≡ sum_by tail_length t.decls
+  pub few_elements : t.elements ≤ most_elements
+  pub few_decls : length t.decls ≤ most_decls
+
+-- what holds of a table after rewritings too
+pub record BoundedTable (t : Table) : Type 0 where
   pub grown : Grown t.decls
   pub few_words : length (type_words t.decls) ≤ 6 * length t.decls + 3 * t.elements
   pub few_elements : t.elements ≤ most_elements

@@ -22,14 +22,15 @@ use Rattle.promises.specs.Calls.{Call, adds_string, adds_type, asks, encodes, st
 use Rattle.promises.specs.Kinds.{data_kind}
 use Rattle.promises.specs.Acts.{Act, calls, rewrites, left_by, left_by_all, last_table}
 use Rattle.promises.specs.Lasting.{SizesAndEndsStay}
-use Rattle.promises.proofs.Sound.{Sound, Grown, SoundTable}
+use Rattle.promises.proofs.Sound.{Sound, Grown, BoundedTable}
 use Rattle.promises.proofs.Kept.{kind_kept}
 use Rattle.promises.proofs.States.{length_turns}
 use Rattle.promises.proofs.Passed.{by_rewriting, when_accepted, Closed, closed_passed}
 use Rattle.promises.proofs.Standing.{few_elements}
 use Rattle.promises.proofs.Stood.{Stood, stood}
 use Rattle.promises.proofs.Steady.{SameWalk, same_walk, Keeps, keeps_same, keeps_on, walk_steady, resolving_closed, measuring_closed}
-use Rattle.promises.proofs.Steps.{by_outcome, by_string, sound_act, sound_last}
+use Rattle.promises.proofs.Steps.{by_outcome, by_string}
+use Rattle.promises.proofs.Acted.{bounded_act, bounded_last}
 use Rattle.promises.proofs.Alike.{held_rewritten}
 use Rattle.promises.proofs.Turning.{some_more}
 
@@ -97,7 +98,7 @@ old_at t q id h = subst (λ n. Stood (job t q) (λ s. Unit {0}) (ended (job t q)
 pub old_in_front : (t : Table) (q : Request) (id : ℕ) → id < length t.decls → decl_at (with_rewritten t (ended (job t q))).decls id ≡ decl_at (ended (job t q)).done id
 old_in_front t q id h = get_or_append_left (ended (job t q)).done (ended (job t q)).made void id (omega (arith, length_turns (job t q) begun t.decls))
 
-keeps_rewritten : (t : Table) (q : Request) → SoundTable t → Keeps t.decls (with_rewritten t (ended (job t q))).decls
+keeps_rewritten : (t : Table) (q : Request) → BoundedTable t → Keeps t.decls (with_rewritten t (ended (job t q))).decls
 keeps_rewritten t q sound =
     let s = ended (job t q) in
     record {
@@ -115,7 +116,7 @@ keeps_push ds d = record {
 }
 
 -- every call keeps them
-keeps_step : (t : Table) (c : Call) → SoundTable t → Keeps t.decls (step t c).decls
+keeps_step : (t : Table) (c : Call) → BoundedTable t → Keeps t.decls (step t c).decls
 keeps_step t (adds_string name) s = by_string t name (λ o. Keeps t.decls o.later.decls) (λ r. keeps_same t.decls) (λ h room. keeps_same t.decls)
 keeps_step t (adds_type g es) s =
     by_outcome t g.declaration es.serving es.items (λ o. Keeps t.decls o.later.decls) (λ r. keeps_same t.decls) (λ h e e'. keeps_push t.decls _)
@@ -123,13 +124,13 @@ keeps_step t (asks q) s = keeps_same t.decls
 keeps_step t (encodes o buffer) s = keeps_same t.decls
 
 -- and every act
-keeps_act : (t : Table) (a : Act) → SoundTable t → Keeps t.decls (left_by t a).decls
+keeps_act : (t : Table) (a : Act) → BoundedTable t → Keeps t.decls (left_by t a).decls
 keeps_act t (calls c) s = keeps_step t c s
 keeps_act t (rewrites q) s = by_rewriting t q (λ o. Keeps t.decls o.later.decls) (λ r. keeps_same t.decls) (λ p. keeps_rewritten t q s)
 
-keeps_acts : (t : Table) (acts : List Act) → SoundTable t → Keeps t.decls (left_by_all t acts).decls
+keeps_acts : (t : Table) (acts : List Act) → BoundedTable t → Keeps t.decls (left_by_all t acts).decls
 keeps_acts t [] s = keeps_same t.decls
-keeps_acts t (a ∷ acts) s = keeps_on t.decls (left_by t a).decls (left_by_all (left_by t a) acts).decls (keeps_act t a s) (keeps_acts (left_by t a) acts (sound_act t a s))
+keeps_acts t (a ∷ acts) s = keeps_on t.decls (left_by t a).decls (left_by_all (left_by t a) acts).decls (keeps_act t a s) (keeps_acts (left_by t a) acts (bounded_act t a s))
 
 -- a table that holds something goes on holding it
 held_string : (t : Table) (name : List ℕ) → holds t ≡ true → t.strings + (length name + 1) ≤ length t.area → holds (with_string t name) ≡ true
@@ -162,9 +163,9 @@ sizes_and_ends_stay history q n later id e h =
     let t = last_table history in
     let u = left_by t (rewrites q) in
     let v = left_by_all u later in
-    let sound : SoundTable t = sound_last history in
+    let sound : BoundedTable t = bounded_last history in
     let passed = (when_accepted t q n e).passed in
-    let keeps = keeps_on t.decls u.decls v.decls (keeps_act t (rewrites q) sound) (keeps_acts u later (sound_act t (rewrites q) sound)) in
+    let keeps = keeps_on t.decls u.decls v.decls (keeps_act t (rewrites q) sound) (keeps_acts u later (bounded_act t (rewrites q) sound)) in
     let held = held_acts u later (held_act t (rewrites q) passed.held) in
     let closed = closed_passed (job t q).bytes t.decls passed.closed in
     let ids : (i : ℕ) → i < length t.decls → Closed (job t q).bytes (length t.decls) (decl_at t.decls i) = λ i p. All-get_or (Closed (job t q).bytes (length t.decls)) t.decls i void p closed in (

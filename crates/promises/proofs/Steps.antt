@@ -4,6 +4,7 @@ use Rattle.std.specs.List.{prefix_len}
 use Rattle.std.proofs.lemmas.Bool.{cond_both, not-false, cases_eq, and_parts, ltb-false}
 use Rattle.std.proofs.lemmas.List.{length_push}
 use Rattle.std.proofs.lemmas.Bool.Decides.{nat_tests}
+use Rattle.std.proofs.lemmas.List.Sums.{sum_by_push}
 use Rattle.layout.specs.declared.kind.BtfKind.{BtfKind}
 use Rattle.layout.specs.declared.declaration.Declaration.{Declaration}
 use Rattle.layout.specs.Kinds.{kind_at}
@@ -12,12 +13,8 @@ use Rattle.layout.specs.Refusals.{Refusal}
 use Rattle.meaning.specs.Table.{Table, Outcome, made, holds, refuses, accepts, no_table, most_decls, most_elements, most_strings}
 use Rattle.meaning.specs.Adding.{add_type, with_type, with_string, add_string, decl_with, named, declaration_fault, room_fault, unless}
 use Rattle.promises.specs.Calls.{Given, Elements, Call, adds_string, adds_type, asks, encodes, step, run}
-use Rattle.promises.specs.Acts.{Act, calls, rewrites, left_by, left_by_all, History, first_table, last_table}
-use Rattle.promises.proofs.Sound.{grown_push, SoundTable}
+use Rattle.promises.proofs.Sound.{grown_push, SoundTable, tail_length}
 use Rattle.promises.proofs.Declared.{Fine, sound_declared}
-use Rattle.promises.proofs.Words.{few_words, length_pushed}
-use Rattle.promises.proofs.Passed.{by_rewriting}
-use Rattle.promises.proofs.Whole.{sound_rewritten}
 
 module _ (t : Table) (d : Declaration) (serving : BtfKind → Bool) (tail : List (List ℕ)) where
   -- a declaration is refused, and the table stays, or it stands behind the others
@@ -60,14 +57,14 @@ fine_declared d serving count e =
       few = grind (arith, nat_tests);
     }
 
-room_left : (t : Table) (count : ℕ) → room_fault t count ≡ None → (length t.decls < most_decls) × (t.elements + count ≤ most_elements)
+pub room_left : (t : Table) (count : ℕ) → room_fault t count ≡ None → (length t.decls < most_decls) × (t.elements + count ≤ most_elements)
 room_left t count e = grind (arith, nat_tests)
 
 pub sound_made : (decl_room element_room : ℕ) (area : List ℕ) → SoundTable (made decl_room element_room area)
 sound_made decl_room element_room area =
     cond_both (ltb 0 decl_room && ltb 0 (length area)) _ _ SoundTable
-    (λ e. record { grown = (refl, tt); few_words = omega arith; few_elements = omega arith; few_decls = omega arith })
-    (λ e. record { grown = tt; few_words = omega arith; few_elements = omega arith; few_decls = omega arith })
+    (λ e. record { grown = (refl, tt); counts = refl; few_elements = omega arith; few_decls = omega arith })
+    (λ e. record { grown = tt; counts = refl; few_elements = omega arith; few_decls = omega arith })
 
 sound_with_type : (t : Table) (g : Given) (es : Elements) → SoundTable t → holds t ≡ true →
     declaration_fault g.declaration es.serving (length es.items) ≡ None → room_fault t (length es.items) ≡ None →
@@ -79,13 +76,13 @@ sound_with_type t g es s h e e' =
     let sound = sound_declared g es k (fine_declared g.declaration es.serving (length es.items) e) in
     record {
       grown = grown_push t.decls new (and_parts _ _ h).0 s.grown sound;
-      few_words = omega (arith, s.few_words, length_pushed t.decls new, few_words new sound, length_push t.decls new);
+      counts = omega (arith, s.counts, sum_by_push tail_length t.decls new);
       few_elements = room.1;
       few_decls = omega (arith, length_push t.decls new);
     }
 
 sound_with_string : (t : Table) (name : List ℕ) → SoundTable t → SoundTable (with_string t name)
-sound_with_string t name s = record { grown = s.grown; few_words = s.few_words; few_elements = s.few_elements; few_decls = s.few_decls }
+sound_with_string t name s = record { grown = s.grown; counts = s.counts; few_elements = s.few_elements; few_decls = s.few_decls }
 
 pub sound_step : (t : Table) (c : Call) → SoundTable t → SoundTable (step t c)
 sound_step t (adds_string name) s = by_string t name (λ o. SoundTable o.later) (λ r. s) (λ h room. sound_with_string t name s)
@@ -97,18 +94,3 @@ sound_step t (encodes o buffer) s = s
 pub sound_run : (t : Table) (cs : List Call) → SoundTable t → SoundTable (run t cs)
 sound_run t [] s = s
 sound_run t (c ∷ cs) s = sound_run (step t c) cs (sound_step t c s)
-
--- so do acts
-pub sound_act : (t : Table) (a : Act) → SoundTable t → SoundTable (left_by t a)
-sound_act t (calls c) s = sound_step t c s
-sound_act t (rewrites q) s = by_rewriting t q (λ o. SoundTable o.later) (λ r. s) (λ p. sound_rewritten t q s p)
-
-pub sound_acts : (t : Table) (acts : List Act) → SoundTable t → SoundTable (left_by_all t acts)
-sound_acts t [] s = s
-sound_acts t (a ∷ acts) s = sound_acts (left_by t a) acts (sound_act t a s)
-
-pub sound_first : (h : History) → SoundTable (first_table h)
-sound_first h = sound_made h.decl_room h.element_room h.area
-
-pub sound_last : (h : History) → SoundTable (last_table h)
-sound_last h = sound_acts (first_table h) h.acts (sound_first h)

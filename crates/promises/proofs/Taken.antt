@@ -17,11 +17,11 @@ use Rattle.rewriting.specs.Rewriting.{job, ended}
 use Rattle.promises.specs.Kinds.{kind_refused, refused_kind}
 use Rattle.promises.specs.Acts.{last_table}
 use Rattle.promises.specs.Lasting.{NoRefusedKindLeft}
-use Rattle.promises.proofs.Sound.{SoundTable}
+use Rattle.promises.proofs.Sound.{BoundedTable}
 use Rattle.promises.proofs.Kept.{kind_kept, flag_kept}
 use Rattle.promises.proofs.States.{length_turns}
 use Rattle.promises.proofs.Passed.{when_accepted}
-use Rattle.promises.proofs.Steps.{sound_last}
+use Rattle.promises.proofs.Acted.{bounded_last}
 use Rattle.promises.proofs.Stay.{few_at, old_at, old_in_front}
 
 abbrev Taken : Job → Decl → Type 0
@@ -162,7 +162,7 @@ no_refused_kind_left history q n id e h =
     let t = last_table history in
     let j = job t q in
     let s = ended j in
-    let sound : SoundTable t = sound_last history in
+    let sound : BoundedTable t = bounded_last history in
     let is = (when_accepted t q n e).later_is in
     let within : id < length (s.done ++ s.made) = subst (λ (u : Table). id < length u.decls) is h in
     let count = length_turns j begun t.decls in

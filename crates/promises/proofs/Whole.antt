@@ -11,7 +11,7 @@ use Rattle.rewriting.specs.Sections.{section_fault, sections_from}
 use Rattle.rewriting.specs.Rules.{State, begun, stands, turns}
 use Rattle.rewriting.specs.Rewriting.{tallied, job, ended, with_rewritten}
 use Rattle.promises.specs.Calls.{Word}
-use Rattle.promises.proofs.Sound.{Sound, Grown, SoundTable}
+use Rattle.promises.proofs.Sound.{Sound, Grown, BoundedTable}
 use Rattle.promises.proofs.States.{length_turns}
 use Rattle.promises.proofs.Passed.{before_none, Passed, room_passed}
 use Rattle.promises.proofs.Standing.{Bounded}
@@ -58,7 +58,7 @@ ended_from j (v ∷ rest) h g names fine b =
     (all.sound, omega (arith, all.words)) in
     subst P (sym g.0) at_void b
 
-pub all_ended : (t : Table) (q : Request) → SoundTable t → Passed t q → Ended (job t q) (ended (job t q))
+pub all_ended : (t : Table) (q : Request) → BoundedTable t → Passed t q → Ended (job t q) (ended (job t q))
 all_ended t q s p =
     let j = job t q in
     let room = room_passed t (ended j) p.room in
@@ -72,7 +72,7 @@ pub bytes_length : (t : Table) → holds t ≡ true → length (text t) ≡ t.st
 bytes_length t h = length-take t.strings t.area ∙ omega (arith, leb-true t.strings (length t.area) (and_parts _ _ h).1)
 
 -- the words of the table after a rewriting
-pub words_rewritten : (t : Table) (q : Request) → SoundTable t → Passed t q →
+pub words_rewritten : (t : Table) (q : Request) → BoundedTable t → Passed t q →
     let n = tallied (ended (job t q)) in
     length (type_words (with_rewritten t (ended (job t q))).decls) ≡ length (type_words t.decls) + (4 * n.placeholders + 8 * n.fillers + 3 * n.filled)
 words_rewritten t q s p =
@@ -80,8 +80,8 @@ words_rewritten t q s p =
     let all = all_ended t q s p in
     omega (arith, all.words, all.sound.made_words, ap length (joined_append decl_words u.done u.made), length-append (type_words u.done) (type_words u.made))
 
-pub sound_rewritten : (t : Table) (q : Request) → SoundTable t → Passed t q → SoundTable (with_rewritten t (ended (job t q)))
-sound_rewritten t q s p =
+pub bounded_rewritten : (t : Table) (q : Request) → BoundedTable t → Passed t q → BoundedTable (with_rewritten t (ended (job t q)))
+bounded_rewritten t q s p =
     let u = ended (job t q) in
     let all = all_ended t q s p in
     let room = room_passed t u p.room in
