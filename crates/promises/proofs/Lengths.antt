@@ -10,7 +10,7 @@ use Rattle.meaning.specs.File.{decl_words, type_words, type_part, type_bytes}
 use Rattle.promises.specs.Calls.{Given, Elements, Call, adds_string, adds_type, asks, encodes, step, run, published, if_accepted, added_by, added}
 use Rattle.promises.specs.Acts.{Act, calls, rewrites, left_by, left_by_all, tally_bytes, gained_by, gained, first_table, last_table}
 use Rattle.promises.specs.Promises.{fresh, table, LengthAddsUp}
-use Rattle.promises.specs.Lasting.{LengthsAddUp}
+use Rattle.promises.specs.Lasting.{LengthAddsUpWithRewritings}
 use Rattle.promises.proofs.Declared.{sound_declared, kind_declared}
 use Rattle.promises.proofs.Steps.{by_outcome, by_string, fine_declared, sound_made, sound_run}
 use Rattle.promises.proofs.Acted.{bounded_act, bounded_first, bounded_last}
@@ -67,7 +67,7 @@ length_adds_up o r =
     stated o (table r) (added (fresh r) r.calls) (sound_run (fresh r) r.calls (sound_made r.decl_room r.element_room r.area)).grown
     (omega (arith, length_run (fresh r) r.calls, made_bytes))
 
-pub lengths_add_up : LengthsAddUp
-lengths_add_up o h =
+pub length_adds_up_with_rewritings : LengthAddsUpWithRewritings
+length_adds_up_with_rewritings o h =
     let made_bytes = length_made h.decl_room h.element_room h.area in
     stated o (last_table h) (gained (first_table h) h.acts) (bounded_last h).grown (omega (arith, length_acts (first_table h) h.acts (bounded_first h), made_bytes))

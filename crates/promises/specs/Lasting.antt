@@ -61,7 +61,7 @@ NoRefusedKindLeft =
 
 -- The type part's length, which the header states, is the sum of the published lengths of what was added and of what the
 -- rewritings answered.
-abbrev pub LengthsAddUp : Type 0
-LengthsAddUp =
+abbrev pub LengthAddsUpWithRewritings : Type 0
+LengthAddsUpWithRewritings =
     (o : Order) (h : History) →
     (length (type_part o (last_table h).decls) ≡ gained (first_table h) h.acts) × (type_bytes (last_table h).decls ≡ gained (first_table h) h.acts)

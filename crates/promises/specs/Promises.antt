@@ -18,7 +18,8 @@ fresh r = made r.decl_room r.element_room r.area
 abbrev pub table : Reached → Table
 table r = run (fresh r) r.calls
 
--- Two tables whose encodings in one byte order are equal hold equal declarations with their elements and equal strings, and answer every question alike.
+-- Two tables that hold something, and whose files in one byte order are equal, hold equal declarations with their elements and
+-- equal strings, and answer every question alike.
 abbrev pub OneFileOneTable : Type 0
 OneFileOneTable =
     (o : Order) (r s : Reached) → holds (table r) ≡ true → holds (table s) ≡ true → file o (table r) ≡ file o (table s) →

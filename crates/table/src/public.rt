@@ -9,7 +9,7 @@ ghost use Rattle.meaning.specs.File.{encode};
 ghost use Rattle.promises.specs.Examples.{ExamplesHold};
 ghost use Rattle.promises.specs.Rewritings.{RewritingsHold};
 ghost use Rattle.promises.specs.Promises.{OneFileOneTable, LengthAddsUp};
-ghost use Rattle.promises.specs.Lasting.{OneEncodingOneTable, SizesAndEndsStay, RulesDone, NoRefusedKindLeft, LengthsAddUp};
+ghost use Rattle.promises.specs.Lasting.{OneEncodingOneTable, SizesAndEndsStay, RulesDone, NoRefusedKindLeft, LengthAddsUpWithRewritings};
 ghost use Rattle.table.specs.Kept.{holding};
 ghost use Rattle.rows.specs.Rows.{void_row};
 ghost use Rattle.table.specs.Tables.{table_of, outcome, with_row, with_elements, written};
@@ -164,7 +164,7 @@ impl<'a> Btf<'a> {
         ensures sizes { SizesAndEndsStay }
         ensures rules { RulesDone }
         ensures kinds { NoRefusedKindLeft }
-        ensures lengths { LengthsAddUp }
+        ensures length_with_rewritings { LengthAddsUpWithRewritings }
         ensures rewritings { RewritingsHold }
     {
         self.store.to_bytes(strings, order, out)

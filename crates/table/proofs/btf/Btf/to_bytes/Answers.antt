@@ -2,7 +2,7 @@ use Rattle.promises.proofs.Files.{one_file_one_table, one_encoding_one_table}
 use Rattle.promises.proofs.Stay.{sizes_and_ends_stay}
 use Rattle.promises.proofs.Done.{rules_done}
 use Rattle.promises.proofs.Taken.{no_refused_kind_left}
-use Rattle.promises.proofs.Lengths.{length_adds_up, lengths_add_up}
+use Rattle.promises.proofs.Lengths.{length_adds_up, length_adds_up_with_rewritings}
 use Rattle.promises.proofs.Examples.{examples_hold, rewritings_hold}
 use Rattle.table.proofs.btf.Btf.to_bytes.Goals as goal
 
@@ -16,6 +16,6 @@ returns g c = record {
   sizes = sizes_and_ends_stay;
   rules = rules_done;
   kinds = no_refused_kind_left;
-  lengths = lengths_add_up;
+  length_with_rewritings = length_adds_up_with_rewritings;
   rewritings = rewritings_hold;
 }
