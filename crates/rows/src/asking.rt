@@ -96,7 +96,7 @@ impl<'t> View<'t> {
     fn is_named(&self, row: &TypeRow, id: u32, name: &[u8], kind: BtfKind) -> Result<bool, BtfError>
         ensures { (rest : Answer ℕ) → verdict id rest (told (λ b. b) result) ≡ find_here (decl_of self.now.elements.now row.now) self.now.strings.now name.now kind id rest }
     {
-        if row.head.kind().number() != kind.number() {
+        if row.head.kind() != kind {
             return Ok(false);
         }
         let found = self.string_at(Some(id), row.head.name_offset)?;

@@ -9,7 +9,7 @@ use elements::Element;
 const MOST_DECLARATIONS: usize = 1_048_575;
 
 // A table as it is asked: its rows, its elements and its strings.
-#[derive(Clone, Copy)]
+#[derive(Clone, Copy, Debug)]
 pub struct View<'t> {
     pub rows: &'t [TypeRow],
     pub elements: &'t [Element],

@@ -80,10 +80,10 @@ impl Walk for Measuring {
         match row.head.kind() {
             BtfKind::Array => Ok(Step::Onward {
                 id: element,
-                carried: word_of(id, count as u64 * len as u64)?,
+                carried: word_of(id, u64::from(count) * u64::from(len))?,
             }),
             BtfKind::Ptr => {
-                let size = word_of(id, self.width.bytes() as u64 * count as u64)?;
+                let size = word_of(id, u64::from(self.width.bytes()) * u64::from(count))?;
                 Ok(Step::Ends(size))
             }
             BtfKind::Int
@@ -93,7 +93,7 @@ impl Walk for Measuring {
             | BtfKind::DataSec
             | BtfKind::Float
             | BtfKind::Enum64 => {
-                let size = word_of(id, third as u64 * count as u64)?;
+                let size = word_of(id, u64::from(third) * u64::from(count))?;
                 Ok(Step::Ends(size))
             }
             BtfKind::Unknown | BtfKind::Fwd | BtfKind::Func | BtfKind::FuncProto => {
