@@ -7,14 +7,13 @@ use Rattle.meaning.specs.Table.{Table, holds, no_table, text}
 use Rattle.meaning.specs.Adding.{over}
 use Rattle.meaning.specs.File.{header, type_part, type_bytes, file, file_length, Written, encode}
 use Rattle.meaning.proofs.Over.{over_over}
-use Rattle.table.specs.declared.store.Store.{Store}
-use Rattle.table.specs.Kept.{Kept, used_rows}
-use Rattle.table.specs.Tables.{table_of}
+use Rattle.table.specs.declared.btf.Btf.{Btf}
+use Rattle.table.specs.Tables.{table_of, used_rows}
 use Rattle.table.proofs.Writes.{header_long, rows_stated}
 
--- the length that a store keeps is the one that the header states
-pub bytes_stated : (s : Store) (strings : List ℕ) → Kept s → type_bytes (table_of s strings).decls ≡ s.type_bytes
-bytes_stated s strings kept = rows_stated (used_rows s) s.elements.now ∙ sym kept.counted
+-- the length that a table keeps is the one that the header states
+pub bytes_stated : (s : Btf) (strings : List ℕ) → type_bytes (table_of s strings).decls ≡ s.type_bytes
+bytes_stated s strings = rows_stated (used_rows s) s.elements.now ∙ sym s.counted
 
 module _ (o : Order) (t : Table) (buffer : List ℕ) (n : ℕ) (held : holds t ≡ true) (needed : n ≡ file_length t) where
   past_holds : cond (ltb (length buffer) (file_length t)) (record { answer = refused (refusal 17 None None (Some (file_length t))); buffer = buffer }) (record { answer = accepted (file_length t); buffer = over 0 (file o t) buffer }) ≡ encode o t buffer

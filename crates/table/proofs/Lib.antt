@@ -6,6 +6,6 @@ mod Layouts
 mod Lengths
 mod Maps
 mod Names
-mod Stores
+mod Rows
 mod Tables
 mod Writes

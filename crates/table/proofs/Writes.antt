@@ -16,7 +16,7 @@ use Rattle.meaning.proofs.Over.{over_over, over_none}
 use Rattle.meaning.proofs.Lengths.{element_total}
 use Rattle.rows.specs.declared.row.TypeRow.{TypeRow}
 use Rattle.rows.specs.Rows.{kept_words, decl_of, head_words}
-use Rattle.table.specs.Kept.{Placed, row_length}
+use Rattle.table.specs.Placed.{Placed, row_length}
 use Rattle.table.proofs.Layouts.{Follows}
 
 abbrev pub kept : ℕ → Element → List ℕ

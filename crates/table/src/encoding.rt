@@ -1,15 +1,18 @@
 // Encoding: the header, the declarations in rising id order, the strings.
-ghost use Rattle.std.specs.Prelude.{◌≡◌, ℕ, ◌+◌, ◌*◌, ◌/◌, ◌%◌, ◌^◌, ◌<◌, ◌≤◌, ◌++◌, map, length, take, drop, sum_by, ◌==◌, slice_index_or};
+ghost use Rattle.std.specs.Prelude.{◌≡◌, ℕ, ◌+◌, ◌*◌, ◌/◌, ◌%◌, ◌^◌, ◌<◌, ◌≤◌, ◌++◌, map, length, take, drop, sum_by, ◌==◌, All};
 ghost use Rattle.std.specs.List.{flat_map};
 ghost use Rattle.layout.specs.Info.{low_of};
 ghost use Rattle.meaning.specs.Adding.{over};
 ghost use Rattle.meaning.specs.File.{coded, header, decl_words, type_part, encode};
-ghost use Rattle.rows.specs.declared.row.TypeRow.{TypeRow as row_type};
-ghost use Rattle.table.specs.Kept.{Kept, Placed, row_length};
+ghost use Rattle.table.specs.Placed.{Placed, row_length};
 ghost use Rattle.rows.specs.Rows.{decl_of, head_words};
 ghost use Rattle.table.specs.Tables.{table_of, written};
+ghost use Rattle.promises.specs.Examples.{ExamplesHold};
+ghost use Rattle.promises.specs.Rewritings.{RewritingsHold};
+ghost use Rattle.promises.specs.Promises.{OneFileOneTable, LengthAddsUp};
+ghost use Rattle.promises.specs.Lasting.{OneEncodingOneTable, SizesAndEndsStay, RulesDone, NoRefusedKindLeft, LengthAddsUpWithRewritings};
 
-use crate::store::Store;
+use crate::btf::Btf;
 use elements::Element;
 use layout::{BtfError, BtfType};
 use order::ByteOrder;
@@ -193,7 +196,7 @@ fn put_types<O: ByteOrder>(
     rows: &[TypeRow],
     elements: &[Element],
 ) -> usize
-    requires placed { (k : ℕ) (d : row_type) → k < length rows.now → Placed (length elements.now) (slice_index_or rows.now k d) }
+    requires placed { All (Placed (length elements.now)) rows.now }
     requires room { at + sum_by row_length rows.now ≤ length out.old }
     ensures bytes { out.new ≡ over at (type_part O.ByteOrder.order (map (decl_of elements.now) rows.now)) out.old }
     ensures long { length (type_part O.ByteOrder.order (map (decl_of elements.now) rows.now)) ≡ sum_by row_length rows.now }
@@ -220,15 +223,40 @@ fn put_header<O: ByteOrder>(order: &O, out: &mut [u8], types: u32, strings: u32)
     let _ = put_words(order, out, 4, &words);
 }
 
-impl Store<'_> {
-    // Writes the file into the buffer, and answers how many bytes it has.
-    pub(crate) fn to_bytes<O: ByteOrder>(
+impl Btf<'_> {
+    // Writes the file of the table into the buffer in a byte order, and answers how many bytes it has.
+    // The rest of the buffer is left as it was, and all of it where the buffer is too short.
+    // After whatever calls: equal files come from equal tables, which answer every question alike, and the
+    // type part is as long as what was added.
+    // With rewritings among the calls, as they are defined (no call here rewrites yet): equal encodings come from
+    // tables that answer every question and are rewritten alike; a rewriting keeps sizes and ends of data kinds, does
+    // every rule and leaves no refused kind; the type part is as long as what was added and answered.
+    pub fn to_bytes<O: ByteOrder>(
         &self,
         strings: &[u8],
         order: &O,
         out: &mut [u8],
     ) -> Result<usize, BtfError>
-        requires { Kept self.now }
+        ensures file { written result out.new ≡ encode O.ByteOrder.order (table_of self.now strings.now) out.old }
+        ensures one_file { OneFileOneTable }
+        ensures length { LengthAddsUp }
+        ensures examples { ExamplesHold }
+        ensures one_encoding { OneEncodingOneTable }
+        ensures sizes { SizesAndEndsStay }
+        ensures rules { RulesDone }
+        ensures kinds { NoRefusedKindLeft }
+        ensures length_with_rewritings { LengthAddsUpWithRewritings }
+        ensures rewritings { RewritingsHold }
+    {
+        self.encode(strings, order, out)
+    }
+
+    fn encode<O: ByteOrder>(
+        &self,
+        strings: &[u8],
+        order: &O,
+        out: &mut [u8],
+    ) -> Result<usize, BtfError>
         ensures { written result out.new ≡ encode O.ByteOrder.order (table_of self.now strings.now) out.old }
     {
         if !self.holds(strings) {

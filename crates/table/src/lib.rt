@@ -2,12 +2,11 @@
 #![tactic(auto)]
 
 mod adding;
+mod asking;
 mod btf;
 mod encoding;
 mod making;
-mod public;
-mod store;
-mod text;
+mod placing;
 
 pub use btf::Btf;
 pub use rows::TypeRow;

@@ -6,7 +6,7 @@ use Rattle.meaning.specs.File.{coded}
 use Rattle.meaning.proofs.Over.{over_none}
 use Rattle.meaning.proofs.Files.{length_coded}
 use Rattle.rows.specs.declared.row.TypeRow.{TypeRow}
-use Rattle.table.specs.Kept.{row_length}
+use Rattle.table.specs.Placed.{row_length}
 use Rattle.table.proofs.Writes.{row_coded, rows_fit, rows_end, rows_long, rows_bytes, rows_part}
 use Rattle.table.proofs.encoding.put_types.Goals as goal
 

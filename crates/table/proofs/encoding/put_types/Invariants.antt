@@ -3,7 +3,7 @@ use Rattle.std.specs.List.{flat_map}
 use Rattle.meaning.specs.Adding.{over}
 use Rattle.meaning.specs.File.{coded, decl_words}
 use Rattle.rows.specs.Rows.{decl_of}
-use Rattle.table.specs.Kept.{row_length}
+use Rattle.table.specs.Placed.{row_length}
 use Rattle.table.proofs.encoding.put_types.Given as goal
 
 abbrev pub invariant-loop-row : goal.invariant-loop-row

@@ -1,39 +1,35 @@
 use Rattle.std.proofs.Common.{◌≡◌, ℕ, ◌+◌, ◌-◌, ◌<◌, ◌≤◌, ltb, leb, List, map, length, get_or, take, sum_by, sym, ap, ◌∙◌, subst, arith, length-take}
 use borrow.Rule.Slice.PartMut.{put_mid}
 use Rattle.std.proofs.lemmas.Bool.{and_parts, leb-true}
-use Rattle.std.proofs.lemmas.List.{get_or-take, length-take-le}
+use Rattle.std.proofs.lemmas.List.Elements.{All-same, All-weaker}
 use Rattle.meaning.specs.Table.{text}
 use Rattle.meaning.specs.Adding.{over}
 use Rattle.meaning.specs.File.{type_part, type_bytes}
 use Rattle.rows.specs.declared.row.TypeRow.{TypeRow}
-use Rattle.table.specs.Kept.{Placed, row_length, used_rows}
+use Rattle.table.specs.Placed.{Placed, row_length}
 use Rattle.rows.specs.Rows.{decl_of}
-use Rattle.table.specs.Tables.{table_of}
+use Rattle.table.specs.Tables.{table_of, used_rows}
 use Rattle.table.proofs.Encodes.{bytes_stated, encode_short, encode_fits, parts_put}
 use Rattle.meaning.proofs.Parts.{part_put}
-use Rattle.table.proofs.store.Store.to_bytes.Goals as goal
+use Rattle.table.proofs.btf.Btf.encode.Goals as goal
 
 pub returns-then-out-needed : goal.returns-then-out-needed
 returns-then-out-needed g c =
     let s = c.args.self.now in
     let t = table_of s c.args.strings.now in
-    let stated = bytes_stated s c.args.strings.now c.requires in
+    let stated = bytes_stated s c.args.strings.now in
     encode_short g.O.ByteOrder.order t c.args.out.now (24 + s.type_bytes + s.string_len) (sym c.holds.ensures ∙ c.if-not-holds.false) (omega arith) c.if-out-needed.true
 
 pub put_types-text-requires : goal.put_types-text-requires
 put_types-text-requires g c =
     let s = c.args.self.now in
-    let P : List TypeRow → Type 0 = λ rows. (k : ℕ) (d : TypeRow) → k < length rows → Placed (length s.elements.now) (get_or rows k d) in
+    let P = Placed (length s.elements.now) in
+    let within = s.elements_within in
     let Q : List TypeRow → Type 0 = λ rows. 24 + sum_by row_length rows ≤ length c.put_header.new.out in
-    let used_placed : P (used_rows s) = λ k d h.
-    let short : k < s.type_count = omega (arith, length-take-le s.type_count s.types.now c.requires.rows_within) in
-    let R : TypeRow → Type 0 = λ r. Placed (length s.elements.now) r in
-    let was = c.requires.placed k d short in
-    subst R (sym (get_or-take s.type_count s.types.now k d short)) (omega arith) in
     let long = c.put_header.auto.out in
-    let counted = c.requires.counted in
+    let counted = s.counted in
     record {
-      placed = subst P (sym c.rows.ensures) used_placed;
+      placed = All-same P _ _ c.rows.ensures (All-weaker (Placed s.element_count) P (λ row h. omega arith) (used_rows s) s.placed);
       room = subst Q (sym c.rows.ensures) (omega arith);
     }
 
@@ -45,8 +41,8 @@ returns g c =
     let bytes = s.type_bytes in
     let needed = 24 + bytes + s.string_len in
     let held = sym c.holds.ensures ∙ c.if-not-holds.false in
-    let stated : bytes ≡ type_bytes t.decls = sym (bytes_stated s c.args.strings.now c.requires) in
-    let counted : sum_by row_length (used_rows s) ≡ bytes = sym c.requires.counted in
+    let stated : bytes ≡ type_bytes t.decls = sym (bytes_stated s c.args.strings.now) in
+    let counted : sum_by row_length (used_rows s) ≡ bytes = sym s.counted in
     let rows_part : type_part o (map (decl_of s.elements.now) c.rows.result.now) ≡ type_part o t.decls = ap (λ rows. type_part o (map (decl_of s.elements.now) rows)) c.rows.ensures in
     let long : length (type_part o t.decls) ≡ bytes =
     ap length (sym rows_part) ∙ c.put_types-text.ensures.long ∙ ap (sum_by row_length) c.rows.ensures ∙ counted in
