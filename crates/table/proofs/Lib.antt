@@ -9,3 +9,4 @@ mod Names
 mod Rows
 mod Tables
 mod Writes
+mod Writing

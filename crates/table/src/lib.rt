@@ -7,6 +7,7 @@ mod btf;
 mod encoding;
 mod making;
 mod placing;
+mod writer;
 
 pub use btf::Btf;
 pub use rows::TypeRow;
