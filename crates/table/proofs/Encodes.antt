@@ -1,9 +1,9 @@
 -- A whole file, written part by part.
-use Rattle.std.proofs.Common.{◌≡◌, ℕ, ◌+◌, ◌<◌, ◌≤◌, true, cond, not, ltb, List, ◌++◌, length, Some, None, sym, ap, ◌∙◌, arith, length-append}
+use Rattle.std.proofs.Common.{◌≡◌, ℕ, ◌<◌, ◌≤◌, true, cond, not, ltb, List, length, Some, None, sym, ap, ◌∙◌, arith}
 use Rattle.std.proofs.lemmas.Bool.{lt-ltb, le-ltb, cond-true, cond-false}
 use Rattle.layout.specs.Refusals.{accepted, refused, refusal}
 use Rattle.order.specs.Order.{Order}
-use Rattle.meaning.specs.Table.{Table, holds, no_table, text}
+use Rattle.meaning.specs.Table.{Table, holds, no_table}
 use Rattle.meaning.specs.Adding.{over}
 use Rattle.meaning.specs.File.{type_bytes, file, file_length, Written, encode}
 use Rattle.table.specs.declared.btf.Btf.{Btf}

@@ -1,17 +1,15 @@
-use Rattle.std.proofs.Common.{◌≡◌, ◌+◌, ◌<◌, ◌≤◌, map, length, set, sym, refl, ap, ◌∙◌, subst, arith}
+use Rattle.std.proofs.Common.{◌≡◌, ◌<◌, ◌≤◌, map, length, sym, refl, ap, ◌∙◌, subst, arith}
 use Rattle.std.proofs.lemmas.Grind.{common_steps}
 use lib.ListN.{length-map}
 use Rattle.std.specs.List.{AllByRecursion}
 use Rattle.layout.specs.Kinds.{kind_at, element_words}
 use Rattle.layout.specs.Heads.{head_kept}
-use Rattle.layout.specs.Refusals.{said}
 use Rattle.elements.specs.Packing.{packed}
 use Rattle.meaning.specs.Table.{accepts}
 use Rattle.meaning.specs.Adding.{declaration_fault, room_fault, with_type}
 use Rattle.layout.specs.Info.{elements_of}
-use Rattle.rows.specs.Rows.{row_of}
 use Rattle.table.specs.Tables.{table_of, Put}
-use Rattle.table.proofs.Checks.{room_refused, type_accepted, declaration_none, room_none}
+use Rattle.table.proofs.Checks.{type_accepted, declaration_none, room_none}
 use Rattle.table.proofs.Counts.{decl_count}
 use Rattle.table.proofs.Tables.{head_elements, all_mapped, table_put}
 use Rattle.table.proofs.btf.Btf.add_type.Goals as goal

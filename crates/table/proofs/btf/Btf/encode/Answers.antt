@@ -1,11 +1,10 @@
 use Rattle.std.proofs.Common.{◌≡◌, ◌+◌, ◌-◌, ◌≤◌, ◌++◌, ltb, leb, map, length, take, sum_by, sym, ap, ◌∙◌, arith, length-take, rules}
 use Rattle.std.proofs.lemmas.Bool.{and_parts, leb-true}
 use Rattle.meaning.specs.Table.{text}
-use Rattle.meaning.specs.File.{header, type_part, type_bytes, file}
+use Rattle.meaning.specs.File.{header, type_part, type_bytes}
 use Rattle.rows.specs.Rows.{decl_of}
 use Rattle.table.specs.Placed.{row_length}
-use Rattle.table.specs.Tables.{table_of, used_rows}
-use Rattle.table.specs.Writing.{Wrote}
+use Rattle.table.specs.Tables.{table_of}
 use Rattle.table.proofs.Encodes.{bytes_stated, encode_fits}
 use Rattle.table.proofs.Writes.{header_long}
 use Rattle.table.proofs.Writing.{wrote_on, wrote_as}

@@ -1,4 +1,4 @@
-use Rattle.std.proofs.Common.{◌<◌, length, arith}
+use Rattle.std.proofs.Common.{arith}
 use Rattle.table.proofs.Begun.{placed_begun, counted_begun, table_begun}
 use Rattle.table.proofs.btf.Btf.new.Goals as goal
 

@@ -1,4 +1,4 @@
-use Rattle.std.proofs.Common.{◌≡◌, ◌∷◌, [], ◌++◌, length, ap, arith}
+use Rattle.std.proofs.Common.{◌∷◌, [], arith}
 use Rattle.meaning.specs.File.{coded}
 use Rattle.meaning.proofs.Files.{length_coded}
 use Rattle.table.proofs.Writing.{wrote_on, wrote_as}

@@ -1,5 +1,4 @@
 use Rattle.std.proofs.Common.{◌+◌, [], take, ap, sym, arith}
-use Rattle.std.specs.List.{flat_map}
 use Rattle.std.proofs.lemmas.List.Folds.{flat_map-map}
 use Rattle.std.proofs.lemmas.List.Sums.{sum_by_more, sum_by-take-le}
 use Rattle.meaning.specs.File.{coded, decl_words}

@@ -1,4 +1,4 @@
-use Rattle.std.proofs.Common.{◌≤◌, ◌+◌, ◌*◌, length, get_or, [], arith}
+use Rattle.std.proofs.Common.{length, [], arith}
 use Rattle.elements.specs.declared.Element.{Element}
 use Rattle.table.specs.Writing.{kept}
 use Rattle.table.proofs.Writing.{wrote_words_more}
