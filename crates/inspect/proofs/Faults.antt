@@ -1,78 +1,56 @@
--- Faults found one after the other.
-use Rattle.std.proofs.Common.{◌≡◌, ℕ, ◌+◌, ◌<◌, ◌≤◌, ltb, List, [], map, length, get_or, drop, Some, None, Option, sym, ap, ◌∙◌, arith}
-use lib.ListN.{length-map}
-use Rattle.std.proofs.lemmas.List.{at_drop_more, at_drop_all, get_or-map}
+-- The faults of a rewriting, as first faults of rows and elements.
+use Rattle.std.proofs.Common.{◌≡◌, ℕ, ◌+◌, ◌≤◌, Bool, cond, eqb, ltb, List, [], ◌∷◌, map, take, None, Option, sym, refl, ap, ◌∙◌}
+use Rattle.std.proofs.lemmas.Bool.{cond-false, le-ltb}
+use Rattle.layout.specs.Info.{kind_of}
+use Rattle.layout.specs.Kinds.{kind_number, element_words}
 use Rattle.layout.specs.Refusals.{Refusal}
-use Rattle.layout.specs.Info.{kind_of, low_of, elements_of}
-use Rattle.std.proofs.lemmas.Bool.{cond_both}
-use Rattle.layout.specs.Kinds.{element_words}
+use Rattle.layout.specs.declared.kind.BtfKind.{BtfKind}
+use Rattle.layout.specs.declared.kind.BtfKind.TheVariants.{DataSec as Section}
 use Rattle.elements.specs.declared.Element.{Element}
-use Rattle.meaning.specs.Table.{void}
+use Rattle.features.specs.declared.BtfFeature.{BtfFeature}
+use Rattle.features.specs.declared.BtfFeature.TheVariants.{DataSec}
+use Rattle.meaning.specs.Table.{Decl}
+use Rattle.meaning.specs.Questions.{decl_kind}
 use Rattle.rows.specs.declared.row.TypeRow.{TypeRow}
-use Rattle.rows.specs.Rows.{decl_of}
-use Rattle.rewriting.specs.Sections.{each_fault}
+use Rattle.rows.specs.declared.view.View.{View}
+use Rattle.rows.specs.Rows.{decl_of, kept_words}
+use Rattle.rewriting.specs.Requests.{Job, section_number}
+use Rattle.rewriting.specs.Rules.{name_at}
 use Rattle.rewriting.specs.Closed.{before, Refers, element_fault, elements_fault, open_at, open_from}
+use Rattle.rewriting.specs.Sections.{needed, entry_fault, member_fault, each_fault, granted_fault, section_fault, sections_from}
+use Rattle.inspect.specs.declared.names.Lists.{Lists}
+use Rattle.inspect.specs.Faults.{first_fault}
+use Rattle.inspect.specs.Listed.{request_of, job_of}
 
--- sixteen bits count the elements
-pub few_elements : (info : ℕ) → elements_of info ≤ 65535
-few_elements info = cond_both (ltb 0 (element_words (kind_of info))) (low_of info) 0 (λ n. n ≤ 65535) (λ e. omega arith) (λ e. omega arith)
+pub first_element : (bytes : List ℕ) (count id : ℕ) (to : Refers) (info at : ℕ) (tail : List Element) →
+    first_fault (λ index e. element_fault bytes count id to index (kept_words info e)) at tail ≡ elements_fault bytes count id to at (map (kept_words info) tail)
+first_element bytes count id to info at [] = refl
+first_element bytes count id to info at (e ∷ tail) = ap (before (element_fault bytes count id to at (kept_words info e))) (first_element bytes count id to info (at + 1) tail)
 
--- the elements of a tail
-module _ (bytes : List ℕ) (count id : ℕ) (to : Refers) (f : Element → List ℕ) (tail : List Element) (at : ℕ) where
-  pub elements_more : (d : Element) → at < length tail →
-      elements_fault bytes count id to at (drop at (map f tail)) ≡ before (element_fault bytes count id to at (f (get_or tail at d))) (elements_fault bytes count id to (at + 1) (drop (at + 1) (map f tail)))
-  elements_more d h =
-      at_drop_more (elements_fault bytes count id to at) (map f tail) at [] (simp length-map h) ∙
-      ap (λ ws. before (element_fault bytes count id to at ws) (elements_fault bytes count id to (at + 1) (drop (at + 1) (map f tail)))) (get_or-map f tail at d [] h)
+pub first_open : (bytes : List ℕ) (count : ℕ) (es : List Element) (at : ℕ) (rows : List TypeRow) →
+    first_fault (λ id row. open_at bytes count id (decl_of es row)) at rows ≡ open_from bytes count at (map (decl_of es) rows)
+first_open bytes count es at [] = refl
+first_open bytes count es at (row ∷ rows) = ap (before (open_at bytes count at (decl_of es row))) (first_open bytes count es (at + 1) rows)
 
-  pub elements_none : length tail ≤ at → elements_fault bytes count id to at (drop at (map f tail)) ≡ None
-  elements_none h = at_drop_all (elements_fault bytes count id to at) (map f tail) at (simp length-map h)
+-- a section's entries have three words
+first_each : (fault : ℕ → List ℕ → Option Refusal) (at : ℕ) (tail : List Element) → first_fault (λ entry e. fault entry (take 3 e.words)) at tail ≡ each_fault fault at (map (λ e. take 3 e.words) tail)
+first_each fault at [] = refl
+first_each fault at (e ∷ tail) = ap (before (fault at (take 3 e.words))) (first_each fault (at + 1) tail)
 
-  -- a fault ends the loop, and without one it goes on
-  pub elements_stop : (d : Element) (whole : Option Refusal) (words : List ℕ) (found : Option Refusal) → whole ≡ elements_fault bytes count id to at (drop at (map f tail)) → at < length tail →
-      found ≡ element_fault bytes count id to at words → words ≡ f (get_or tail at d) → (r : Refusal) → found ≡ Some r → Some r ≡ whole
-  elements_stop d whole words found inv h e same r is =
-      sym (inv ∙ elements_more d h ∙ ap (λ o. before o (elements_fault bytes count id to (at + 1) (drop (at + 1) (map f tail)))) (ap (element_fault bytes count id to at) (sym same) ∙ sym e ∙ is))
+pub first_entry : (fault : ℕ → List ℕ → Option Refusal) (info : ℕ) → kind_of info ≡ Section → (tail : List Element) → first_fault (λ entry e. fault entry (take 3 e.words)) 0 tail ≡ each_fault fault 0 (map (kept_words info) tail)
+first_entry fault info kind tail = first_each fault 0 tail ∙ sym (ap (λ (k : BtfKind). each_fault fault 0 (map (λ e. take (element_words k) e.words) tail)) kind)
 
-  pub elements_go : (d : Element) (whole : Option Refusal) (words : List ℕ) (found : Option Refusal) → whole ≡ elements_fault bytes count id to at (drop at (map f tail)) → at < length tail →
-      found ≡ element_fault bytes count id to at words → words ≡ f (get_or tail at d) → found ≡ None → whole ≡ elements_fault bytes count id to (at + 1) (drop (at + 1) (map f tail))
-  elements_go d whole words found inv h e same is =
-      inv ∙ elements_more d h ∙ ap (λ o. before o (elements_fault bytes count id to (at + 1) (drop (at + 1) (map f tail)))) (ap (element_fault bytes count id to at) (sym same) ∙ sym e ∙ is)
+-- of what is granted, sections alone are asked about
+section_same : (view : View) (lists : Lists) (f g : BtfFeature → Bool) → f DataSec ≡ g DataSec → (id : ℕ) (d : Decl) →
+    section_fault (job_of view (request_of lists f)) id d ≡ section_fault (job_of view (request_of lists g)) id d
+section_same view lists f g same id d =
+    ap (λ granted. cond (eqb (kind_number (decl_kind d)) 15) (cond granted (granted_fault (job_of view (request_of lists f)) id d) (each_fault (member_fault id) 0 d.tail)) None) same
 
--- the declarations of a table
-module _ (bytes : List ℕ) (count : ℕ) (es : List Element) (rows : List TypeRow) (at : ℕ) where
-  pub open_more : (d : TypeRow) → at < length rows →
-      open_from bytes count at (drop at (map (decl_of es) rows)) ≡ before (open_at bytes count at (decl_of es (get_or rows at d))) (open_from bytes count (at + 1) (drop (at + 1) (map (decl_of es) rows)))
-  open_more d h =
-      at_drop_more (open_from bytes count at) (map (decl_of es) rows) at void (simp length-map h) ∙
-      ap (λ x. before (open_at bytes count at x) (open_from bytes count (at + 1) (drop (at + 1) (map (decl_of es) rows)))) (get_or-map (decl_of es) rows at d void h)
+pub first_section : (view : View) (lists : Lists) (f g : BtfFeature → Bool) → f DataSec ≡ g DataSec → (es : List Element) (at : ℕ) (rows : List TypeRow) →
+    first_fault (λ id row. section_fault (job_of view (request_of lists f)) id (decl_of es row)) at rows ≡ sections_from (job_of view (request_of lists g)) at (map (decl_of es) rows)
+first_section view lists f g same es at [] = refl
+first_section view lists f g same es at (row ∷ rows) = cc (section_same view lists f g same at (decl_of es row), first_section view lists f g same es (at + 1) rows)
 
-  pub open_none : length rows ≤ at → open_from bytes count at (drop at (map (decl_of es) rows)) ≡ None
-  open_none h = at_drop_all (open_from bytes count at) (map (decl_of es) rows) at (simp length-map h)
-
-  pub open_stop : (d : TypeRow) (whole found : Option Refusal) → whole ≡ open_from bytes count at (drop at (map (decl_of es) rows)) → at < length rows →
-      found ≡ open_at bytes count at (decl_of es (get_or rows at d)) → (r : Refusal) → found ≡ Some r → Some r ≡ whole
-  open_stop d whole found inv h e r is = sym (inv ∙ open_more d h ∙ ap (λ o. before o (open_from bytes count (at + 1) (drop (at + 1) (map (decl_of es) rows)))) (sym e ∙ is))
-
-  pub open_go : (d : TypeRow) (whole found : Option Refusal) → whole ≡ open_from bytes count at (drop at (map (decl_of es) rows)) → at < length rows →
-      found ≡ open_at bytes count at (decl_of es (get_or rows at d)) → found ≡ None → whole ≡ open_from bytes count (at + 1) (drop (at + 1) (map (decl_of es) rows))
-  open_go d whole found inv h e is = inv ∙ open_more d h ∙ ap (λ o. before o (open_from bytes count (at + 1) (drop (at + 1) (map (decl_of es) rows)))) (sym e ∙ is)
-
--- the entries of a section
-module _ (fault : ℕ → List ℕ → Option Refusal) (tail : List Element) (at : ℕ) (whole : Option Refusal) (inv : whole ≡ each_fault fault at (drop at (map (λ e. e.words) tail))) where
-  abbrev blank : Element
-  blank = record { words = [] }
-
-  each_more : at < length tail → whole ≡ before (fault at (get_or tail at blank).words) (each_fault fault (at + 1) (drop (at + 1) (map (λ e. e.words) tail)))
-  each_more h =
-      inv ∙ at_drop_more (each_fault fault at) (map (λ e. e.words) tail) at [] (simp length-map h) ∙
-      ap (λ ws. before (fault at ws) (each_fault fault (at + 1) (drop (at + 1) (map (λ e. e.words) tail)))) (get_or-map (λ e. e.words) tail at blank [] h)
-
-  pub each_stop : (words : List ℕ) (found : Option Refusal) → at < length tail → found ≡ fault at words → words ≡ (get_or tail at blank).words → (r : Refusal) → found ≡ Some r → Some r ≡ whole
-  each_stop words found h e same r is = sym (each_more h ∙ ap (λ o. before o (each_fault fault (at + 1) (drop (at + 1) (map (λ e. e.words) tail)))) (ap (fault at) (sym same) ∙ sym e ∙ is))
-
-  pub each_go : (words : List ℕ) (found : Option Refusal) → at < length tail → found ≡ fault at words → words ≡ (get_or tail at blank).words → found ≡ None → whole ≡ each_fault fault (at + 1) (drop (at + 1) (map (λ e. e.words) tail))
-  each_go words found h e same is = each_more h ∙ ap (λ o. before o (each_fault fault (at + 1) (drop (at + 1) (map (λ e. e.words) tail)))) (ap (fault at) (sym same) ∙ sym e ∙ is)
-
-  pub each_none : length tail ≤ at → None ≡ whole
-  each_none h = sym (inv ∙ at_drop_all (each_fault fault at) (map (λ e. e.words) tail) at (simp length-map h))
+-- a section whose row is there is judged by its entries
+pub granted_rest : (j : Job) (id : ℕ) (d : Decl) → d.third ≤ 0 → None ≡ needed 12 id None (section_number j (name_at j d.name)) → each_fault (entry_fault j id) 0 d.tail ≡ granted_fault j id d
+granted_rest j id d h e = sym (cond-false (ltb 0 d.third) _ _ (le-ltb 0 d.third h) ∙ ap (λ o. before o (each_fault (entry_fault j id) 0 d.tail)) (sym e))

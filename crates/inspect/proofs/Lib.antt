@@ -1,4 +1,4 @@
-pub mod Standing
-pub mod Faults
-pub mod Numbers
-pub mod Entries
+mod Faults
+mod Firsts
+mod Numbers
+mod Standing

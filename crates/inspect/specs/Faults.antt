@@ -1,8 +1,7 @@
--- What a refusal of a rewriting says: its own faults, or the table's fault whole.
-use Rattle.std.specs.Prelude.{ℕ, Bool, cond, List, Some, None, Option}
+-- What a check says, and what a refusal of a rewriting says: its own faults, or the table's fault whole.
+use Rattle.std.specs.Prelude.{ℕ, ◌+◌, List, [], ◌∷◌, Some, None, Ok, Err, Option, Result}
 use Rattle.layout.specs.Refusals.{Refusal, refusal, said}
-use Rattle.rewriting.specs.Requests.{Job}
-use Rattle.rewriting.specs.Sections.{entry_fault, member_fault}
+use Rattle.rewriting.specs.Closed.{before}
 use Rattle.inspect.specs.declared.error.FixupError.{FixupError}
 use Rattle.inspect.specs.declared.error.FixupError.TheVariants.{Table, UnknownSectionSize, InvalidDatasec, SymbolOffsetNotFound, NumberTooLarge}
 
@@ -14,10 +13,12 @@ fixup_said (InvalidDatasec section entry type-id) = refusal 13 (Some section) (S
 fixup_said (SymbolOffsetNotFound section entry) = refusal 14 (Some section) (Some entry) None
 fixup_said (NumberTooLarge section entry number) = refusal 15 (Some section) entry (Some number)
 
-abbrev pub fixup_fault : Option FixupError → Option Refusal
-fixup_fault (Some e) = Some (fixup_said e)
-fixup_fault None = None
+-- what a check found, by what an error says
+abbrev pub fault_of : {E : Type 0} → (E → Refusal) → Result (Unit {0}) E → Option Refusal
+fault_of says (Ok done) = None
+fault_of says (Err e) = Some (says e)
 
--- an entry's fault, where sections are granted and where they are refused
-abbrev pub one_fault : Bool → Job → ℕ → ℕ → List ℕ → Option Refusal
-one_fault granted j section entry ws = cond granted (entry_fault j section entry ws) (member_fault section entry ws)
+-- the first fault of items in rising order, by the place of each
+abbrev pub first_fault : {X : Type 0} → (ℕ → X → Option Refusal) → ℕ → List X → Option Refusal
+first_fault fault at [] = None
+first_fault fault at (x ∷ xs) = before (fault at x) (first_fault fault (at + 1) xs)

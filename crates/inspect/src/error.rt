@@ -1,10 +1,11 @@
 // Why a rewriting is refused.
 ghost use Rattle.std.specs.Prelude.{◌≡◌};
 ghost use Rattle.inspect.specs.Faults.{fixup_said};
+ghost use Rattle.inspect.specs.declared.error.FixupError.TheVariants.{Table};
 
 use layout::BtfError;
 
-#[derive(Clone, Copy)]
+#[derive(Clone, Copy, Debug, PartialEq, Eq)]
 pub enum FixupError {
     // What the table itself refuses.
     Table(BtfError),
@@ -29,6 +30,14 @@ pub enum FixupError {
         entry: Option<u32>,
         number: u64,
     },
+}
+
+impl From<BtfError> for FixupError {
+    ghost from_gives = { λ fault e. e ≡ Table fault };
+
+    fn from(fault: BtfError) -> FixupError {
+        FixupError::Table(fault)
+    }
 }
 
 impl FixupError {

@@ -2,11 +2,12 @@
 #![tactic(auto)]
 
 mod closed;
+mod each;
 mod error;
 mod names;
 mod sections;
 
 pub use closed::open_fault;
 pub use error::FixupError;
-pub use names::{NamedRow, number_of};
-pub use sections::{name_at, sections_fault};
+pub use names::{Lists, NamedRow, name_at, number_of};
+pub use sections::sections_fault;

@@ -1,23 +1,44 @@
 -- The search, one row at a time.
-use Rattle.std.proofs.Common.{◌≡◌, ℕ, ◌+◌, ◌<◌, ◌≤◌, List, map, length, get_or, drop, None, ap, ◌∙◌}
+use Rattle.std.proofs.Common.{◌≡◌, ℕ, ◌+◌, ◌<◌, ◌≤◌, List, [], length, get_or, drop, None, sym, ap, ◌∙◌}
 use lib.ListN.{length-map}
 use Rattle.std.proofs.lemmas.List.{at_drop_more, at_drop_all}
-use Rattle.layout.specs.Refusals.{refused, refusal}
+use Rattle.layout.specs.Refusals.{Answer, Refusal, accepted, refused, refusal}
 use Rattle.layout.specs.declared.kind.BtfKind.{BtfKind}
-use Rattle.elements.specs.declared.Element.{Element}
 use Rattle.meaning.specs.Table.{void}
 use Rattle.meaning.specs.Questions.{find_here, find_from}
 use Rattle.rows.specs.declared.row.TypeRow.{TypeRow}
+use Rattle.rows.specs.declared.view.View.{View}
 use Rattle.rows.specs.Rows.{decl_of}
+use Rattle.rows.specs.Views.{decls}
 use Rattle.rows.proofs.Lookups.{decl_found}
 
-module _ (rows : List TypeRow) (es : List Element) (bytes name : List ℕ) (kind : BtfKind) (at : ℕ) where
-  pub find_more : (d : TypeRow) → at < length rows →
-      find_from (drop at (map (decl_of es) rows)) bytes name kind at ≡
-      find_here (decl_of es (get_or rows at d)) bytes name kind at (find_from (drop (at + 1) (map (decl_of es) rows)) bytes name kind (at + 1))
-  find_more d h =
-      at_drop_more (λ l. find_from l bytes name kind at) (map (decl_of es) rows) at void (simp length-map h) ∙
-      ap (λ x. find_here x bytes name kind at (find_from (drop (at + 1) (map (decl_of es) rows)) bytes name kind (at + 1))) (decl_found rows es at d h)
+-- what a row past the end reads as
+abbrev blank : TypeRow
+blank = record { head = record { name_offset = 0; info = 0; size_or_type = 0; extra = [] }; first = 0 }
 
-  pub find_none : length rows ≤ at → find_from (drop at (map (decl_of es) rows)) bytes name kind at ≡ refused (refusal 11 None None None)
-  find_none h = at_drop_all (λ l. find_from l bytes name kind at) (map (decl_of es) rows) at (simp length-map h)
+-- the search as it was asked is the search from where it has come to
+pub record Searched (v : View) (name : List ℕ) (kind : BtfKind) (whole : Answer ℕ) (at : ℕ) : Type 0 where
+  pub on : whole ≡ find_from (drop at (decls v)) v.strings.now name kind at
+
+module _ {v : View} {name : List ℕ} {kind : BtfKind} {whole : Answer ℕ} {at : ℕ} (far : Searched v name kind whole at) where
+  pub find_none : length v.rows.now ≤ at → refused (refusal 11 None None None) ≡ whole
+  find_none h = sym (far.on ∙ at_drop_all (λ l. find_from l v.strings.now name kind at) (decls v) at (simp length-map h))
+
+  module _ (there : at < length v.rows.now) where
+    abbrev pub here : Answer ℕ → Answer ℕ
+    here rest = find_here (decl_of v.elements.now (get_or v.rows.now at blank)) v.strings.now name kind at rest
+
+    find_more : whole ≡ here (find_from (drop (at + 1) (decls v)) v.strings.now name kind (at + 1))
+    find_more =
+        far.on ∙
+        at_drop_more (λ l. find_from l v.strings.now name kind at) (decls v) at void (simp length-map there) ∙
+        ap (λ x. find_here x v.strings.now name kind at (find_from (drop (at + 1) (decls v)) v.strings.now name kind (at + 1))) (decl_found v.rows.now v.elements.now at blank there)
+
+    pub find_stops : (r : Refusal) → ((rest : Answer ℕ) → refused r ≡ here rest) → refused r ≡ whole
+    find_stops r e = e _ ∙ sym find_more
+
+    pub find_ends : ((rest : Answer ℕ) → accepted at ≡ here rest) → accepted at ≡ whole
+    find_ends e = e _ ∙ sym find_more
+
+    pub find_onward : ((rest : Answer ℕ) → rest ≡ here rest) → Searched v name kind whole (at + 1)
+    find_onward e = record { on = find_more ∙ sym (e _) }

@@ -1,5 +1,3 @@
 mod Finds
 pub mod Lookups
-mod Names
 mod Paths
-mod Same

@@ -1,20 +1,19 @@
 -- What the steps of the walks and of the search say.
-use Rattle.std.specs.Prelude.{ℕ, Bool, cond}
-use Rattle.layout.specs.Refusals.{said, Answer, accepted, refused}
-use Rattle.meaning.specs.Questions.{Move, onward, ends, stuck, product}
+use Rattle.std.specs.Prelude.{ℕ, Bool, cond, Some, None, Ok, Err, Result, nat_le}
+use Rattle.layout.specs.declared.error.BtfError.{BtfError}
+use Rattle.layout.specs.Refusals.{said, Answer, accepted, refused, refusal}
+use Rattle.meaning.specs.Questions.{Move, onward, ends, stuck, greatest_word}
 use Rattle.rows.specs.declared.walking.Step.{Step}
-use Rattle.rows.specs.declared.walking.Step.TheVariants.{Onward, Ends, Stuck}
+use Rattle.rows.specs.declared.walking.Step.TheVariants.{Onward, Ends}
 
-abbrev pub move_of : Step → Move ℕ ℕ
-move_of (Onward id count) = onward id count
-move_of (Ends size) = ends size
-move_of (Stuck fault) = stuck (said fault)
+abbrev pub move_of : {S : Type 0} → Result (Step S) BtfError → Move S ℕ
+move_of (Ok (Onward id carried)) = onward id carried
+move_of (Ok (Ends answer)) = ends answer
+move_of (Err fault) = stuck (said fault)
 
-abbrev pub product_onward : ℕ → ℕ → ℕ → Move ℕ ℕ
-product_onward at next n = product at n (λ count. onward next count)
-
-abbrev pub product_ends : ℕ → ℕ → Move ℕ ℕ
-product_ends at n = product at n (λ size. ends size)
+-- a product at a declaration that is a word, or refusal 9
+abbrev pub word_of : ℕ → ℕ → Answer ℕ
+word_of id n = cond (nat_le n greatest_word) (accepted n) (refused (refusal 9 (Some id) None (Some n)))
 
 -- the search ends at a row that is found or faulty, and else goes on
 abbrev pub verdict : ℕ → Answer ℕ → Answer Bool → Answer ℕ

@@ -1,179 +1,105 @@
-// Questions to rows, elements and strings.
-ghost use Rattle.std.specs.Prelude.{◌≡◌, ℕ, ◌≤◌, List, map, length, take, drop, Some};
+// The questions that are answered by one declaration or by a search.
+ghost use Rattle.std.specs.Prelude.{◌≡◌, ℕ, List, take, drop};
 ghost use Rattle.layout.specs.Info.{elements_of};
-ghost use Rattle.std.specs.Str.{bytes_eq};
 ghost use Rattle.layout.specs.Refusals.{told, Answer};
-ghost use Rattle.elements.specs.declared.Element.{Element as element_type};
 ghost use Rattle.meaning.specs.Questions.{string_at, type_by_id, element_at, element_of, type_name, find_here, find_from};
-ghost use Rattle.rows.specs.Rows.{decl_of};
+ghost use Rattle.rows.specs.Rows.{decl_of, row_at};
+ghost use Rattle.rows.specs.Views.{decls};
 ghost use Rattle.rows.specs.Walks.{verdict};
 
 use crate::row::TypeRow;
-use crate::text::name_length;
+use crate::text::{same_bytes, string_from};
+use crate::view::View;
 use elements::{BtfElement, Element};
 use layout::{BtfError, BtfKind, BtfType};
 
-// The name at an offset, which `holder` holds where the offset was not asked directly.
-pub fn string_at<'s>(
-    strings: &'s [u8],
-    holder: Option<u32>,
-    offset: u32,
-) -> Result<&'s [u8], BtfError>
-    ensures { told (λ s. s.now) result ≡ string_at strings.now holder offset }
-{
-    let at = strings.len().min(offset as usize);
-    let rest = &strings[at..];
-    let length = name_length(rest);
-    if length < rest.len() {
-        Ok(&rest[0..length])
-    } else {
-        Err(BtfError::InvalidStringOffset {
+impl<'t> View<'t> {
+    // The name at an offset, which `holder` holds where the offset was not asked directly.
+    pub fn string_at(&self, holder: Option<u32>, offset: u32) -> Result<&'t [u8], BtfError>
+        ensures { told (λ s. s.now) result ≡ string_at self.now.strings.now holder offset }
+    {
+        string_from(self.strings, offset).ok_or(BtfError::InvalidStringOffset {
             holder,
             element: None,
             offset,
         })
     }
-}
 
-pub fn type_by_id(rows: &[TypeRow], id: u32) -> Result<BtfType, BtfError>
-    ensures { (es : List element_type) → told (λ h. h) result ≡ type_by_id (map (decl_of es) rows.now) id }
-{
-    let at = id as usize;
-    if at < rows.len() {
-        Ok(rows[at].head)
-    } else {
-        Err(BtfError::UnknownBtfType {
-            holder: None,
+    // The row of an id, which the declaration `holder` names where the id was not asked directly.
+    pub fn row_at(&self, holder: Option<u32>, id: u32) -> Result<&'t TypeRow, BtfError>
+        ensures { told (λ row. row.now) result ≡ row_at self.now.rows.now holder id }
+    {
+        self.rows.get(id as usize).ok_or(BtfError::UnknownBtfType {
+            holder,
             element: None,
             type_id: id,
         })
     }
-}
 
-pub fn element_at(
-    rows: &[TypeRow],
-    elements: &[Element],
-    id: u32,
-    index: u32,
-) -> Result<BtfElement, BtfError>
-    ensures { told (λ e. e) result ≡ element_at (map (decl_of elements.now) rows.now) id index }
-{
-    let at = id as usize;
-    if rows.len() <= at {
-        return Err(BtfError::UnknownBtfType {
-            holder: None,
-            element: None,
-            type_id: id,
-        });
+    // The elements of a row, which stand together from its first.
+    pub fn tail(&self, row: &TypeRow) -> &'t [Element]
+        ensures { result.now ≡ take (elements_of row.now.head.info) (drop row.now.first self.now.elements.now) }
+    {
+        let behind = self.elements.get(row.first as usize..).unwrap_or(&[]);
+        behind.get(..row.head.element_count()).unwrap_or(behind)
     }
-    match row_element(&rows[at], elements, index as usize) {
-        Some(element) => Ok(element),
-        None => Err(BtfError::NoSuchElement {
-            type_id: id,
-            element: index,
-        }),
+
+    // The head of a declaration: all of it but its elements.
+    pub fn type_by_id(&self, id: u32) -> Result<BtfType, BtfError>
+        ensures { told (λ h. h) result ≡ type_by_id (decls self.now) id }
+    {
+        let row = self.row_at(None, id)?;
+        Ok(row.head)
     }
-}
 
-pub fn type_name<'s>(rows: &[TypeRow], strings: &'s [u8], id: u32) -> Result<&'s [u8], BtfError>
-    ensures { (es : List element_type) → told (λ s. s.now) result ≡ type_name (map (decl_of es) rows.now) strings.now id }
-{
-    let at = id as usize;
-    if at < rows.len() {
-        string_at(strings, Some(id), rows[at].head.name_offset)
-    } else {
-        Err(BtfError::UnknownBtfType {
-            holder: None,
-            element: None,
-            type_id: id,
-        })
+    // An element of a declaration, from 0.
+    pub fn element_at(&self, id: u32, index: u32) -> Result<BtfElement, BtfError>
+        ensures { told (λ e. e) result ≡ element_at (decls self.now) id index }
+    {
+        let row = self.row_at(None, id)?;
+        self.element_of(row, index as usize)
+            .ok_or(BtfError::NoSuchElement {
+                type_id: id,
+                element: index,
+            })
     }
-}
 
-fn row_element(row: &TypeRow, elements: &[Element], index: usize) -> Option<BtfElement>
-    ensures { result ≡ element_of (decl_of elements.now row.now) index }
-{
-    let tail = row_tail(row, elements);
-    if index < tail.len() {
-        tail[index].typed(row.head.kind())
-    } else {
-        None
+    fn element_of(&self, row: &TypeRow, index: usize) -> Option<BtfElement>
+        ensures { result ≡ element_of (decl_of self.now.elements.now row.now) index }
+    {
+        let element = self.tail(row).get(index)?;
+        element.typed(row.head.kind())
     }
-}
 
-// The elements of a row, which stand together from its first.
-pub fn row_tail<'e>(row: &TypeRow, elements: &'e [Element]) -> &'e [Element]
-    ensures { result.now ≡ take (elements_of row.now.head.info) (drop row.now.first elements.now) }
-{
-    let from = elements.len().min(row.first as usize);
-    let count = (elements.len() - from).min(row.head.element_count());
-    &elements[from..from + count]
-}
-
-// Whether two names have the same bytes.
-pub fn same_bytes(a: &[u8], b: &[u8]) -> bool
-    ensures { result ≡ bytes_eq a.now b.now }
-{
-    if a.len() != b.len() {
-        return false;
+    // The name of a declaration.
+    pub fn type_name(&self, id: u32) -> Result<&'t [u8], BtfError>
+        ensures { told (λ s. s.now) result ≡ type_name (decls self.now) self.now.strings.now id }
+    {
+        let row = self.row_at(None, id)?;
+        self.string_at(Some(id), row.head.name_offset)
     }
-    for i in 0..a.len() {
-        if a[i] != b[i] {
-            return false;
-        }
-    }
-    true
-}
 
-// Whether a row has the kind and the name.
-fn is_named(
-    row: &TypeRow,
-    id: u32,
-    strings: &[u8],
-    name: &[u8],
-    kind: BtfKind,
-) -> Result<bool, BtfError>
-    ensures { (es : List element_type) (rest : Answer ℕ) → verdict id rest (told (λ b. b) result) ≡ find_here (decl_of es row.now) strings.now name.now kind id rest }
-{
-    if row.head.kind().number() != kind.number() {
-        return Ok(false);
-    }
-    match string_at(strings, Some(id), row.head.name_offset) {
-        Ok(found) => Ok(same_bytes(found, name)),
-        Err(fault) => Err(fault),
-    }
-}
-
-// A table has no more declarations than this.
-const MOST_DECLARATIONS: usize = 1_048_575;
-
-// The lowest id of a kind and name.
-pub fn id_by_type_name_kind(
-    rows: &[TypeRow],
-    strings: &[u8],
-    name: &[u8],
-    kind: BtfKind,
-) -> Result<u32, BtfError>
-    ensures { (es : List element_type) → told (λ n. n) result ≡ find_from (map (decl_of es) (take 1048575 rows.now)) strings.now name.now kind 0 }
-{
-    let few = &rows[0..rows.len().min(MOST_DECLARATIONS)];
-    search(few, strings, name, kind)
-}
-
-fn search(rows: &[TypeRow], strings: &[u8], name: &[u8], kind: BtfKind) -> Result<u32, BtfError>
-    requires { length rows.now ≤ 1048575 }
-    ensures { (es : List element_type) → told (λ n. n) result ≡ find_from (map (decl_of es) rows.now) strings.now name.now kind 0 }
-{
-    for at in 0..rows.len() {
-        let id = at as u32;
-        match is_named(&rows[at], id, strings, name, kind) {
-            Ok(found) => {
-                if found {
-                    return Ok(id);
-                }
+    // The lowest id of a kind and name.
+    pub fn id_by_type_name_kind(&self, name: &[u8], kind: BtfKind) -> Result<u32, BtfError>
+        ensures { told (λ n. n) result ≡ find_from (decls self.now) self.now.strings.now name.now kind 0 }
+    {
+        for (at, row) in self.rows.iter().enumerate() {
+            let id = at as u32;
+            if self.is_named(row, id, name, kind)? {
+                return Ok(id);
             }
-            Err(fault) => return Err(fault),
         }
+        Err(BtfError::UnknownBtfTypeName)
     }
-    Err(BtfError::UnknownBtfTypeName)
+
+    // Whether a row has the kind and the name.
+    fn is_named(&self, row: &TypeRow, id: u32, name: &[u8], kind: BtfKind) -> Result<bool, BtfError>
+        ensures { (rest : Answer ℕ) → verdict id rest (told (λ b. b) result) ≡ find_here (decl_of self.now.elements.now row.now) self.now.strings.now name.now kind id rest }
+    {
+        if row.head.kind() != kind {
+            return Ok(false);
+        }
+        let found = self.string_at(Some(id), row.head.name_offset)?;
+        Ok(same_bytes(found, name))
+    }
 }

@@ -4,11 +4,9 @@
 mod asking;
 mod row;
 mod text;
+mod view;
 mod walking;
 
-pub use asking::{
-    element_at, id_by_type_name_kind, row_tail, same_bytes, string_at, type_by_id, type_name,
-};
 pub use row::TypeRow;
-pub use text::name_length;
-pub use walking::{resolve_type, type_size};
+pub use text::{name_length, same_bytes, string_from};
+pub use view::View;

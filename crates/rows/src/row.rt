@@ -5,7 +5,7 @@ ghost use Rattle.rows.specs.Rows.{void_row};
 use layout::BtfType;
 
 // A declaration as the table keeps it: its head, and where its elements begin in the element area.
-#[derive(Clone, Copy)]
+#[derive(Clone, Copy, Debug, PartialEq, Eq)]
 pub struct TypeRow {
     pub head: BtfType,
     pub first: u32,

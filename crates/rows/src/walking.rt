@@ -1,156 +1,158 @@
 // The two walks over declarations: to the end of an id, and to its size.
-ghost use Rattle.std.specs.Prelude.{◌≡◌, ◌<◌, List, map, IfOk, if◌then◌else◌, Some, None};
-ghost use Rattle.layout.specs.Info.{kind_of};
+ghost use Rattle.std.specs.Prelude.{◌≡◌, ℕ, ◌<◌, List, IfOk, None};
 ghost use Rattle.layout.specs.Kinds.{pointer_bytes};
 ghost use Rattle.layout.specs.Refusals.{told};
 ghost use Rattle.elements.specs.declared.Element.{Element as element_type};
-ghost use Rattle.meaning.specs.Questions.{resolve_type, type_size, follows, measuring};
+ghost use Rattle.meaning.specs.Table.{Decl};
+ghost use Rattle.meaning.specs.Questions.{Move, walk, most_reads, resolve_type, type_size, resolving, measuring};
 ghost use Rattle.rows.specs.Rows.{decl_of};
-ghost use Rattle.rows.specs.Walks.{move_of, product_onward, product_ends};
+ghost use Rattle.rows.specs.Views.{decls};
+ghost use Rattle.rows.specs.Walks.{move_of, word_of};
 
 use crate::row::TypeRow;
+use crate::view::View;
 use layout::{BtfError, BtfKind, PointerWidth};
 
 // How many declarations a walk reads at most.
 const MAX_RESOLVE_DEPTH: u32 = 32;
 
-// The id that resolving follows from a declaration, where it does.
-fn followed(row: &TypeRow) -> Option<u32>
-    ensures { result ≡ (if follows (kind_of row.now.head.info) then Some row.now.head.size_or_type else None) }
-{
-    match row.head.kind() {
-        BtfKind::Volatile
-        | BtfKind::Const
-        | BtfKind::Restrict
-        | BtfKind::Typedef
-        | BtfKind::TypeTag => Some(row.head.size_or_type),
-        _ => None,
-    }
-}
-
-// The end of an id, and how many links were followed to it.
-pub fn resolve_type(rows: &[TypeRow], id: u32) -> Result<(u32, u32), BtfError>
-    ensures answer { (es : List element_type) → told (λ p. (p.0, p.1)) result ≡ resolve_type (map (decl_of es) rows.now) id }
-    ensures short { IfOk result (λ p. p.1 < 32) }
-{
-    let mut at = id;
-    let mut holder = None;
-    for links in 0..MAX_RESOLVE_DEPTH {
-        if rows.len() <= at as usize {
-            return Err(BtfError::UnknownBtfType {
-                holder,
-                element: None,
-                type_id: at,
-            });
-        }
-        match followed(&rows[at as usize]) {
-            Some(next) => {
-                holder = Some(at);
-                at = next;
-            }
-            None => return Ok((at, links)),
-        }
-    }
-    Err(BtfError::MaximumTypeDepthReached { type_id: id })
-}
-
-// What the size walk does at a declaration.
+// What a walk does at a declaration: goes on to an id with what it carries, or ends with an answer.
 #[derive(Clone, Copy)]
-pub enum Step {
-    Onward { id: u32, count: u32 },
-    Ends { size: u32 },
-    Stuck { fault: BtfError },
+pub enum Step<S> {
+    Onward { id: u32, carried: S },
+    Ends(u32),
 }
 
-// Goes on with the product as the count, where it is a word.
-fn repeated(at: u32, next: u32, product: u64) -> Step
-    ensures { move_of result ≡ product_onward at next product }
-{
-    if product <= u32::MAX as u64 {
-        Step::Onward {
-            id: next,
-            count: product as u32,
-        }
-    } else {
-        Step::Stuck {
-            fault: BtfError::InvalidTypeInfo {
-                type_id: at,
-                product,
-            },
+// A walk is what it does at each declaration.
+trait Walk {
+    // What is carried from one declaration to the next.
+    type Carried: Copy;
+
+    ghost look: { Self → Self.Carried → ℕ → Decl → Move Self.Carried ℕ };
+
+    fn look(
+        &self,
+        carried: Self::Carried,
+        id: u32,
+        row: &TypeRow,
+    ) -> Result<Step<Self::Carried>, BtfError>
+        ensures { (es : List element_type) → move_of result ≡ look self.now carried id (decl_of es row.now) };
+}
+
+// Follows Volatile, Const, Restrict, Typedef and TypeTag.
+#[derive(Clone, Copy)]
+struct Resolving;
+
+impl Walk for Resolving {
+    type Carried = ();
+
+    ghost look = { λ _. resolving };
+
+    fn look(&self, _carried: (), id: u32, row: &TypeRow) -> Result<Step<()>, BtfError> {
+        match row.head.kind() {
+            BtfKind::Volatile
+            | BtfKind::Const
+            | BtfKind::Restrict
+            | BtfKind::Typedef
+            | BtfKind::TypeTag => Ok(Step::Onward {
+                id: row.head.size_or_type,
+                carried: (),
+            }),
+            _ => Ok(Step::Ends(id)),
         }
     }
 }
 
-// Ends with the product as the size, where it is a word.
-fn measured(at: u32, product: u64) -> Step
-    ensures { move_of result ≡ product_ends at product }
-{
-    if product <= u32::MAX as u64 {
-        Step::Ends {
-            size: product as u32,
-        }
-    } else {
-        Step::Stuck {
-            fault: BtfError::InvalidTypeInfo {
-                type_id: at,
-                product,
-            },
+// Carries how many times the size of what comes counts.
+#[derive(Clone, Copy)]
+struct Measuring {
+    width: PointerWidth,
+}
+
+impl Walk for Measuring {
+    type Carried = u32;
+
+    ghost look = { λ walk. measuring (pointer_bytes walk.width) };
+
+    fn look(&self, count: u32, id: u32, row: &TypeRow) -> Result<Step<u32>, BtfError> {
+        let third = row.head.size_or_type;
+        let [element, _, len] = row.head.extra;
+        match row.head.kind() {
+            BtfKind::Array => Ok(Step::Onward {
+                id: element,
+                carried: word_of(id, u64::from(count) * u64::from(len))?,
+            }),
+            BtfKind::Ptr => {
+                let size = word_of(id, u64::from(self.width.bytes()) * u64::from(count))?;
+                Ok(Step::Ends(size))
+            }
+            BtfKind::Int
+            | BtfKind::Struct
+            | BtfKind::Union
+            | BtfKind::Enum
+            | BtfKind::DataSec
+            | BtfKind::Float
+            | BtfKind::Enum64 => {
+                let size = word_of(id, u64::from(third) * u64::from(count))?;
+                Ok(Step::Ends(size))
+            }
+            BtfKind::Unknown | BtfKind::Fwd | BtfKind::Func | BtfKind::FuncProto => {
+                Err(BtfError::UnexpectedBtfType { type_id: id })
+            }
+            _ => Ok(Step::Onward {
+                id: third,
+                carried: count,
+            }),
         }
     }
 }
 
-fn size_step(row: &TypeRow, at: u32, count: u32, width: PointerWidth) -> Step
-    ensures { (es : List element_type) → move_of result ≡ measuring (pointer_bytes width) count at (decl_of es row.now) }
+// A product at a declaration, where it is a word.
+fn word_of(type_id: u32, product: u64) -> Result<u32, BtfError>
+    ensures { told (λ n. n) result ≡ word_of type_id product }
 {
-    let third = row.head.size_or_type;
-    let [element, _, len] = row.head.extra;
-    match row.head.kind() {
-        BtfKind::Array => repeated(at, element, count as u64 * len as u64),
-        BtfKind::Ptr => measured(at, width.bytes() as u64 * count as u64),
-        BtfKind::Int
-        | BtfKind::Struct
-        | BtfKind::Union
-        | BtfKind::Enum
-        | BtfKind::DataSec
-        | BtfKind::Float
-        | BtfKind::Enum64 => measured(at, third as u64 * count as u64),
-        BtfKind::Unknown | BtfKind::Fwd | BtfKind::Func | BtfKind::FuncProto => {
-            Step::Stuck {
-                fault: BtfError::UnexpectedBtfType { type_id: at },
+    u32::try_from(product).map_err(|_| BtfError::InvalidTypeInfo { type_id, product })
+}
+
+impl<'t> View<'t> {
+    // The end of an id, and how many links were followed to it.
+    pub fn resolve_type(&self, id: u32) -> Result<(u32, u32), BtfError>
+        ensures answer { told (λ p. (p.0, p.1)) result ≡ resolve_type (decls self.now) id }
+        ensures short { IfOk result (λ p. p.1 < 32) }
+    {
+        self.walk(&Resolving, id, ())
+    }
+
+    // The size of an id, and how many links were followed to what has it.
+    pub fn type_size(&self, id: u32, width: PointerWidth) -> Result<(u32, u32), BtfError>
+        ensures answer { told (λ p. (p.0, p.1)) result ≡ type_size (pointer_bytes width) (decls self.now) id }
+        ensures short { IfOk result (λ p. p.1 < 32) }
+    {
+        self.walk(&Measuring { width }, id, 1)
+    }
+
+    // It reads at most 32 declarations: the count of links is carried in the result and equals the definition's, at most 31.
+    fn walk<W: Walk>(&self, kind: &W, id: u32, start: W::Carried) -> Result<(u32, u32), BtfError>
+        ensures answer { told (λ p. (p.0, p.1)) result ≡ walk (W.look kind.now) most_reads (decls self.now) id None start id 0 }
+        ensures short { IfOk result (λ p. p.1 < 32) }
+    {
+        let mut at = id;
+        let mut holder = None;
+        let mut carried = start;
+        for links in 0..MAX_RESOLVE_DEPTH {
+            let row = self.row_at(holder, at)?;
+            match kind.look(carried, at, row)? {
+                Step::Onward {
+                    id: next,
+                    carried: later,
+                } => {
+                    holder = Some(at);
+                    at = next;
+                    carried = later;
+                }
+                Step::Ends(answer) => return Ok((answer, links)),
             }
         }
-        _ => Step::Onward { id: third, count },
+        Err(BtfError::MaximumTypeDepthReached { type_id: id })
     }
-}
-
-// The size of an id, and how many links were followed to what has it.
-pub fn type_size(rows: &[TypeRow], id: u32, width: PointerWidth) -> Result<(u32, u32), BtfError>
-    ensures answer { (es : List element_type) → told (λ p. (p.0, p.1)) result ≡ type_size (pointer_bytes width) (map (decl_of es) rows.now) id }
-    ensures short { IfOk result (λ p. p.1 < 32) }
-{
-    let mut at = id;
-    let mut holder = None;
-    let mut count = 1;
-    for links in 0..MAX_RESOLVE_DEPTH {
-        if rows.len() <= at as usize {
-            return Err(BtfError::UnknownBtfType {
-                holder,
-                element: None,
-                type_id: at,
-            });
-        }
-        match size_step(&rows[at as usize], at, count, width) {
-            Step::Onward {
-                id: next,
-                count: more,
-            } => {
-                holder = Some(at);
-                at = next;
-                count = more;
-            }
-            Step::Ends { size } => return Ok((size, links)),
-            Step::Stuck { fault } => return Err(fault),
-        }
-    }
-    Err(BtfError::MaximumTypeDepthReached { type_id: id })
 }

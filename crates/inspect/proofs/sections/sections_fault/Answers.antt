@@ -1,12 +1,8 @@
-use Rattle.std.proofs.Common.{◌≡◌, ◌-◌, min, length, take, ap, ◌∙◌, arith}
-use Rattle.rows.proofs.Lookups.{take_min}
-use Rattle.rewriting.specs.Sections.{sections_fault}
-use Rattle.inspect.specs.Listed.{request_of, job_of}
+use Rattle.std.proofs.Common.{◌∙◌}
+use Rattle.inspect.proofs.Faults.{first_section}
 use Rattle.inspect.proofs.sections.sections_fault.Goals as goal
 
 pub returns : goal.returns
 returns c grants same =
-    let rows = c.args.rows.now in
-    let cut : c.min.result - 0 ≡ min (length rows) 1048575 = omega arith in
-    c.sections_among.ensures grants same ∙
-    ap (λ l. sections_fault (job_of l c.args.elements.now c.args.strings.now (request_of c.args.sections.now c.args.symbols.now c.args.names.now grants))) (ap (λ n. take n rows) cut ∙ take_min 1048575 rows)
+    let v = c.args.view.now in
+    c.check_each.ensures ∙ first_section v c.args.lists.now (λ _. c.args.granted) grants same v.elements.now 0 v.rows.now

@@ -1,0 +1,28 @@
+use Rattle.std.proofs.Common.{refl}
+use Rattle.std.proofs.lemmas.Result.{err_from_is_err_and}
+use Rattle.rows.proofs.Paths.{path_over, path_missing, path_stuck, path_ends, path_onward}
+use Rattle.rows.proofs.view.View.walk.Goals as goal
+
+pub loop-links-init : goal.loop-links-init
+loop-links-init g c = record { on = refl }
+
+pub returns-in_err-row-clause-answer : goal.returns-in_err-row-clause-answer
+returns-in_err-row-clause-answer g c =
+    let p = err_from_is_err_and c.from_residual.result c.from_residual.ensures.1 in
+    rw (p.1, p.2) (path_missing c.loop-links.invariant c.loop-links-test.true _ c.in_err-row.ensures)
+
+pub returns-in_err-next-clause-answer : goal.returns-in_err-next-clause-answer
+returns-in_err-next-clause-answer g c =
+    let p = err_from_is_err_and c.from_residual-in_err-next.result c.from_residual-in_err-next.ensures.1 in
+    rw (p.1, p.2) (path_stuck c.loop-links.invariant c.loop-links-test.true _ c.in_ok-row.ensures _ (c.in_err-next.ensures c.args.self.now.elements.now))
+
+pub returns-in-Ends-clause-answer : goal.returns-in-Ends-clause-answer
+returns-in-Ends-clause-answer g c =
+    path_ends c.loop-links.invariant c.loop-links-test.true _ c.in_ok-row.ensures _ (rw c.in-Ends.is at c.in_ok-next.ensures c.args.self.now.elements.now)
+
+pub loop-links-preserved : goal.loop-links-preserved
+loop-links-preserved g c =
+    path_onward c.loop-links.invariant c.loop-links-test.true _ c.in_ok-row.ensures _ _ (rw c.in-Onward.is at c.in_ok-next.ensures c.args.self.now.elements.now)
+
+pub returns-clause-answer : goal.returns-clause-answer
+returns-clause-answer g c = path_over c.loop-links.invariant c.loop-links-test.false
