@@ -1,14 +1,14 @@
--- How many declarations a store means, and when it lacks room.
+-- How many declarations a table has, and when it lacks room.
 use Rattle.std.proofs.Common.{◌≡◌, ℕ, ◌+◌, ◌<◌, ◌≤◌, min, ltb, leb, List, length, Some, None, sym, ◌∙◌, arith, length-take}
 use lib.ListN.{length-map}
 use Rattle.std.proofs.lemmas.Bool.{le-leb, lt-leb, lt-ltb, le-ltb, cond-true, cond-false}
 use Rattle.meaning.specs.Table.{Table, most_decls, most_elements}
 use Rattle.meaning.specs.Adding.{room_fault, no_room}
-use Rattle.table.specs.declared.store.Store.{Store}
+use Rattle.table.specs.declared.btf.Btf.{Btf}
 use Rattle.table.specs.Tables.{table_of}
 
-pub decl_count : (s : Store) (strings : List ℕ) → s.type_count ≤ length s.types.now → length (table_of s strings).decls ≡ s.type_count
-decl_count s strings h = simp (length-map, length-take) (omega arith)
+pub decl_count : (s : Btf) (strings : List ℕ) → length (table_of s strings).decls ≡ s.type_count
+decl_count s strings = let h = s.within in simp (length-map, length-take) (omega arith)
 
 pub decls_full : (t : Table) (n : ℕ) → min t.decl_room most_decls ≤ length t.decls → Some (no_room 0) ≡ room_fault t n
 decls_full t n h = sym (cond-true (leb (min t.decl_room most_decls) (length t.decls)) _ _ (le-leb _ _ h))

@@ -1,20 +1,18 @@
 -- A whole file, written part by part.
-use Rattle.std.proofs.Common.{◌≡◌, ℕ, ◌+◌, ◌<◌, ◌≤◌, true, cond, not, ltb, List, ◌++◌, length, Some, None, sym, ap, ◌∙◌, arith, length-append}
+use Rattle.std.proofs.Common.{◌≡◌, ℕ, ◌<◌, ◌≤◌, true, cond, not, ltb, List, length, Some, None, sym, ap, ◌∙◌, arith}
 use Rattle.std.proofs.lemmas.Bool.{lt-ltb, le-ltb, cond-true, cond-false}
 use Rattle.layout.specs.Refusals.{accepted, refused, refusal}
 use Rattle.order.specs.Order.{Order}
-use Rattle.meaning.specs.Table.{Table, holds, no_table, text}
+use Rattle.meaning.specs.Table.{Table, holds, no_table}
 use Rattle.meaning.specs.Adding.{over}
-use Rattle.meaning.specs.File.{header, type_part, type_bytes, file, file_length, Written, encode}
-use Rattle.meaning.proofs.Over.{over_over}
-use Rattle.table.specs.declared.store.Store.{Store}
-use Rattle.table.specs.Kept.{Kept, used_rows}
-use Rattle.table.specs.Tables.{table_of}
-use Rattle.table.proofs.Writes.{header_long, rows_stated}
+use Rattle.meaning.specs.File.{type_bytes, file, file_length, Written, encode}
+use Rattle.table.specs.declared.btf.Btf.{Btf}
+use Rattle.table.specs.Tables.{table_of, used_rows}
+use Rattle.table.proofs.Writes.{rows_stated}
 
--- the length that a store keeps is the one that the header states
-pub bytes_stated : (s : Store) (strings : List ℕ) → Kept s → type_bytes (table_of s strings).decls ≡ s.type_bytes
-bytes_stated s strings kept = rows_stated (used_rows s) s.elements.now ∙ sym kept.counted
+-- the length that a table keeps is the one that the header states
+pub bytes_stated : (s : Btf) (strings : List ℕ) → type_bytes (table_of s strings).decls ≡ s.type_bytes
+bytes_stated s strings = rows_stated (used_rows s) s.elements.now ∙ sym s.counted
 
 module _ (o : Order) (t : Table) (buffer : List ℕ) (n : ℕ) (held : holds t ≡ true) (needed : n ≡ file_length t) where
   past_holds : cond (ltb (length buffer) (file_length t)) (record { answer = refused (refusal 17 None None (Some (file_length t))); buffer = buffer }) (record { answer = accepted (file_length t); buffer = over 0 (file o t) buffer }) ≡ encode o t buffer
@@ -32,22 +30,3 @@ module _ (o : Order) (t : Table) (buffer : List ℕ) (n : ℕ) (held : holds t �
       ap (λ m. record { answer = accepted m; buffer = later }) needed ∙
       ap (λ b. record { answer = accepted (file_length t); buffer = b }) e ∙
       sym (cond-false (ltb (length buffer) (file_length t)) _ _ (le-ltb (length buffer) (file_length t) (omega arith))) ∙ past_holds
-
--- header, types and strings one behind the other
-pub parts_put : (o : Order) (t : Table) (types behind : ℕ) (out begun typed later : List ℕ) →
-    types ≡ type_bytes t.decls → behind ≡ 24 + types → length (type_part o t.decls) ≡ types → length (text t) ≡ t.strings → file_length t ≤ length out →
-    begun ≡ over 0 (header o types t.strings) out → typed ≡ over 24 (type_part o t.decls) begun → later ≡ over behind (text t) typed →
-    later ≡ over 0 (file o t) out
-parts_put o t types behind out begun typed later stated place long strings room b d l =
-    let head = header o types t.strings in
-    let part = type_part o t.decls in
-    let head_long = header_long o types t.strings in
-    let place24 : 24 ≡ 0 + length head = omega arith in
-    let first : typed ≡ over 0 (head ++ part) out =
-    d ∙ ap (over 24 part) b ∙ ap (λ n. over n part (over 0 head out)) place24 ∙ over_over 0 head part out (omega arith) in
-    let ends : behind ≡ 0 + length (head ++ part) = omega (arith, length-append head part) in
-    l ∙
-    ap (over behind (text t)) first ∙
-    ap (λ n. over n (text t) (over 0 (head ++ part) out)) ends ∙
-    over_over 0 (head ++ part) (text t) out (omega (arith, length-append head part)) ∙
-    ap (λ n. over 0 ((header o n t.strings ++ part) ++ text t) out) stated

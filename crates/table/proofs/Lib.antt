@@ -2,10 +2,10 @@ mod Begun
 mod Checks
 mod Counts
 mod Encodes
-mod Layouts
 mod Lengths
 mod Maps
 mod Names
-mod Stores
+mod Rows
 mod Tables
 mod Writes
+mod Writing

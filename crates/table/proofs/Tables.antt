@@ -1,8 +1,9 @@
--- The table that a store means, after a declaration is put behind the others.
-use Rattle.std.proofs.Common.{◌≡◌, ℕ, ◌+◌, ◌-◌, ◌^◌, ◌<◌, ◌≤◌, cond, ltb, List, [], ◌∷◌, ◌++◌, map, length, get_or, take, drop, replicate, sym, refl, ap, ◌∙◌, subst, ⊎_elim, arith}
+-- The table that a `Btf` means, after a declaration is put behind the others.
+use Rattle.std.proofs.Common.{◌≡◌, ℕ, ◌+◌, ◌-◌, ◌^◌, ◌<◌, ◌≤◌, cond, ltb, List, [], ◌∷◌, ◌++◌, map, length, take, drop, replicate, sym, refl, ap, ◌∙◌, subst, ⊎_elim, arith}
 use lib.ListN.{length-map}
-use Rattle.std.proofs.lemmas.List.{map_push, take-take, drop-take, take_at, drop_at, length-take-le, get_or-take, length-set}
-use Rattle.std.specs.List.{AllByRecursion as All}
+use Rattle.std.proofs.lemmas.List.{map_push, take-take, drop-take, take_at, drop_at, length-take-le, length-set}
+use Rattle.std.specs.List.{All, AllByRecursion}
+use Rattle.std.proofs.lemmas.List.Elements.{All-weaker}
 use Rattle.std.proofs.lemmas.Bool.{cases_lt}
 use Rattle.layout.specs.Kinds.{element_words, kind_at}
 use Rattle.layout.specs.Heads.{low_bits, head_kept}
@@ -17,13 +18,13 @@ use Rattle.elements.specs.Packing.{packed}
 use Rattle.meaning.specs.Adding.{decl_with, with_type}
 use Rattle.meaning.proofs.Over.{length_over}
 use Rattle.rows.specs.declared.row.TypeRow.{TypeRow}
-use Rattle.table.specs.declared.store.Store.{Store}
+use Rattle.table.specs.declared.btf.Btf.{Btf}
 use Rattle.rows.specs.Rows.{kept_words, decl_of}
-use Rattle.table.specs.Kept.{Kept, Placed, used_rows}
+use Rattle.table.specs.Placed.{Placed}
 use Rattle.rows.specs.Rows.{row_of}
-use Rattle.table.specs.Tables.{table_of}
+use Rattle.table.specs.Tables.{table_of, used_rows, Put}
 use Rattle.table.proofs.Maps.{map_same}
-use Rattle.table.proofs.Stores.{Put, rows_push}
+use Rattle.table.proofs.Rows.{rows_push}
 
 -- a part below n is the same in lists that agree up to n
 part_same : {X : Type 0} (from count n : ℕ) (xs ys : List X) → from + count ≤ n → take n xs ≡ take n ys → take count (drop from xs) ≡ take count (drop from ys)
@@ -37,21 +38,21 @@ read_back : (w : ℕ) (ws : List ℕ) → length ws ≡ w → take w (packed ws)
 read_back w ws e = take_at ws (replicate (3 - length ws) 0) w e
 
 -- elements that all have as many words as the kind asks for
-pub tail_back : (info : ℕ) (tail : List (List ℕ)) → All (λ ws. length ws ≡ element_words (kind_of info)) tail → map (kept_words info) (map packed tail) ≡ tail
+pub tail_back : (info : ℕ) (tail : List (List ℕ)) → AllByRecursion (λ ws. length ws ≡ element_words (kind_of info)) tail → map (kept_words info) (map packed tail) ≡ tail
 tail_back info [] each = refl
 tail_back info (ws ∷ tail) each =
     let first : kept_words info (packed ws) ≡ ws = read_back (element_words (kind_of info)) ws each.0 in
     let rest : map (kept_words info) (map packed tail) ≡ tail = tail_back info tail each.1 in
     cc
 
-module _ (s t : Store) (head : BtfType) (new : List Element) (kept : Kept s) (put : Put s t head new)
+module _ (s t : Btf) (head : BtfType) (new : List Element) (put : Put s t head new)
     (row_room : s.type_count < length s.types.now)
     (room : s.element_count + length new ≤ length s.elements.now)
     (suits : elements_of head.info ≡ length new) where
   front_same : take s.element_count t.elements.now ≡ take s.element_count s.elements.now
   front_same =
       ap (take s.element_count) put.elements ∙
-      take_at (take s.element_count s.elements.now) (new ++ drop (s.element_count + length new) s.elements.now) s.element_count (length-take-le s.element_count s.elements.now kept.elements_within)
+      take_at (take s.element_count s.elements.now) (new ++ drop (s.element_count + length new) s.elements.now) s.element_count (length-take-le s.element_count s.elements.now s.elements_within)
 
   old_same : (row : TypeRow) → Placed s.element_count row → decl_of t.elements.now row ≡ decl_of s.elements.now row
   old_same row p =
@@ -60,7 +61,7 @@ module _ (s t : Store) (head : BtfType) (new : List Element) (kept : Kept s) (pu
 
   new_elements : take (elements_of head.info) (drop s.element_count t.elements.now) ≡ new
   new_elements =
-      let front : length (take s.element_count s.elements.now) ≡ s.element_count = length-take-le s.element_count s.elements.now kept.elements_within in
+      let front : length (take s.element_count s.elements.now) ≡ s.element_count = length-take-le s.element_count s.elements.now s.elements_within in
       ap (λ n. take n (drop s.element_count t.elements.now)) suits ∙
       ap (λ es. take (length new) (drop s.element_count es)) put.elements ∙
       ap (take (length new)) (drop_at (take s.element_count s.elements.now) (new ++ drop (s.element_count + length new) s.elements.now) s.element_count front) ∙
@@ -70,18 +71,14 @@ module _ (s t : Store) (head : BtfType) (new : List Element) (kept : Kept s) (pu
       (table_of t strings).decls ≡ (table_of s strings).decls ++ decl_with head tail ∷ []
   decls_put strings tail back =
       let row = row_of head s.element_count in
-      let old_rows : map (decl_of t.elements.now) (used_rows s) ≡ map (decl_of s.elements.now) (used_rows s) =
-      map_same (decl_of t.elements.now) (decl_of s.elements.now) (used_rows s)
-      (λ k d l.
-      let short : k < s.type_count = omega (arith, length-take-le s.type_count s.types.now kept.rows_within) in
-      let P : TypeRow → Type 0 = λ r. decl_of t.elements.now r ≡ decl_of s.elements.now r in
-      let at : get_or (used_rows s) k d ≡ get_or s.types.now k d = get_or-take s.type_count s.types.now k d short in
-      subst P (sym at) (old_same (get_or s.types.now k d) (kept.placed k d short))) in
+      let rows : used_rows t ≡ used_rows s ++ row ∷ [] = ap (λ n. take n t.types.now) put.type_count ∙ ap (take (s.type_count + 1)) put.types ∙ rows_push s head row_room in
+      let same : All (λ r. decl_of t.elements.now r ≡ decl_of s.elements.now r) (used_rows s) =
+      All-weaker (Placed s.element_count) (λ r. decl_of t.elements.now r ≡ decl_of s.elements.now r) old_same (used_rows s) s.placed in
       let new_row : decl_of t.elements.now row ≡ decl_with head tail =
       ap (λ es. decl_with head (map (kept_words head.info) es)) new_elements ∙ ap (decl_with head) back in
-      ap (map (decl_of t.elements.now)) (rows_push s t head new put row_room) ∙
+      ap (map (decl_of t.elements.now)) rows ∙
       map_push (decl_of t.elements.now) (used_rows s) row ∙
-      ap (λ ds. ds ++ decl_of t.elements.now row ∷ []) old_rows ∙
+      ap (λ ds. ds ++ decl_of t.elements.now row ∷ []) (map_same (decl_of t.elements.now) (decl_of s.elements.now) (used_rows s) same) ∙
       ap (λ d. (table_of s strings).decls ++ d ∷ []) new_row
 
 no_elements : (count : ℕ) → (0 < count → 0 < 0) → 0 ≡ count
@@ -144,26 +141,26 @@ module _ (d : Declaration) (kind : BtfKind) (count : ℕ) (few : count ≤ 65535
       elements_low kind d.linkage count h
 
 -- every item of a mapped list has what every image has
-pub all_mapped : {X Y : Type 0} (P : Y → Type 0) (f : X → Y) (xs : List X) → (0 < length xs → (x : X) → P (f x)) → All P (map f xs)
+pub all_mapped : {X Y : Type 0} (P : Y → Type 0) (f : X → Y) (xs : List X) → (0 < length xs → (x : X) → P (f x)) → AllByRecursion P (map f xs)
 all_mapped P f [] each = tt
 all_mapped P f (x ∷ xs) each = (each (omega arith) x, all_mapped P f xs (λ h. each (omega arith)))
 
 -- the whole table after a declaration is put
-module _ (s t : Store) (d : Declaration) (kind : BtfKind) (tail : List (List ℕ)) (kept : Kept s)
+module _ (s t : Btf) (d : Declaration) (kind : BtfKind) (tail : List (List ℕ))
     (put : Put s t (head_kept d kind (length tail)) (map packed tail)) (known : kind ≡ kind_at d.kind)
     (row_room : s.type_count < length s.types.now)
     (room : s.element_count + length tail ≤ length s.elements.now)
     (few : length tail ≤ 65535) (worded : 0 < length tail → 0 < element_words kind)
-    (counted : All (λ ws. length ws ≡ element_words kind) tail) where
+    (counted : AllByRecursion (λ ws. length ws ≡ element_words kind) tail) where
   pub table_put : (strings : List ℕ) → table_of t strings ≡ with_type (table_of s strings) d tail
   table_put strings =
       let head = head_kept d kind (length tail) in
       let as_long : length (map packed tail) ≡ length tail = length-map tail packed in
       let suits : elements_of head.info ≡ length (map packed tail) = head_elements d kind (length tail) few worded ∙ sym as_long in
-      let wide : All (λ ws. length ws ≡ element_words (kind_of head.info)) tail =
-      subst (λ k. All (λ ws. length ws ≡ element_words k) tail) (sym (head_kind d kind (length tail) few)) counted in
+      let wide : AllByRecursion (λ ws. length ws ≡ element_words (kind_of head.info)) tail =
+      subst (λ k. AllByRecursion (λ ws. length ws ≡ element_words k) tail) (sym (head_kind d kind (length tail) few)) counted in
       let decls : (table_of t strings).decls ≡ (table_of s strings).decls ++ decl_with (head_kept d (kind_at d.kind) (length tail)) tail ∷ [] =
-      decls_put s t head (map packed tail) kept put row_room (omega arith) suits strings tail (tail_back head.info tail wide) ∙
+      decls_put s t head (map packed tail) put row_room (omega arith) suits strings tail (tail_back head.info tail wide) ∙
       ap (λ k. (table_of s strings).decls ++ decl_with (head_kept d k (length tail)) tail ∷ []) known in
       let rows : length t.types.now ≡ length s.types.now = ap length put.types ∙ length-set s.types.now s.type_count (row_of head s.element_count) in
       let elements : length t.elements.now ≡ length s.elements.now = ap length put.elements ∙ length_over s.element_count (map packed tail) s.elements.now (omega arith) in

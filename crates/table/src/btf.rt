@@ -1,21 +1,28 @@
 // The table.
-ghost use Rattle.std.specs.Prelude.{◌≡◌, ℕ, ◌+◌, ◌*◌, ◌<◌, ◌≤◌, length, sum_by, slice_index_or};
-ghost use Rattle.rows.specs.declared.row.TypeRow.{TypeRow};
-ghost use Rattle.table.specs.Kept.{Placed, row_length, used_rows};
+ghost use Rattle.std.specs.Prelude.{◌≡◌, ◌+◌, ◌*◌, ◌≤◌, length, take, sum_by, All};
+ghost use Rattle.meaning.specs.Table.{most_decls, most_elements, most_strings};
+ghost use Rattle.table.specs.Placed.{Placed, row_length};
 
-use crate::store::Store;
+use elements::Element;
+use rows::TypeRow;
 
 // A table holds two areas of the caller's, one of declarations and one of elements. Its string area comes
-// with each call. The ghost fields are the parts of `Kept`.
+// with each call.
 #[derive(Drop)]
 pub struct Btf<'a> {
-    pub(crate) store: Store<'a>,
-    ghost within: { store.type_count ≤ length store.types.now },
-    ghost few: { store.type_count ≤ 1048575 },
-    ghost elementswithin: { store.element_count ≤ length store.elements.now },
-    ghost fewelements: { store.element_count ≤ 2097152 },
-    ghost fewstrings: { store.string_len ≤ 16777215 },
-    ghost placed: { (k : ℕ) (d : TypeRow) → k < store.type_count → Placed store.element_count (slice_index_or store.types.now k d) },
-    ghost counted: { store.type_bytes ≡ sum_by row_length (used_rows store) },
-    ghost bounded: { store.type_bytes ≤ 24 * store.type_count + 12 * store.element_count },
+    pub(crate) types: &'a mut [TypeRow],
+    pub(crate) elements: &'a mut [Element],
+    pub(crate) type_count: usize,
+    pub(crate) element_count: usize,
+    // the length of the type part of a file
+    pub(crate) type_bytes: usize,
+    pub(crate) string_len: usize,
+    ghost within: { type_count ≤ length types.now },
+    ghost few: { type_count ≤ most_decls },
+    ghost elements_within: { element_count ≤ length elements.now },
+    ghost few_elements: { element_count ≤ most_elements },
+    ghost few_strings: { string_len ≤ most_strings },
+    ghost placed: { All (Placed element_count) (take type_count types.now) },
+    ghost counted: { type_bytes ≡ sum_by row_length (take type_count types.now) },
+    ghost bounded: { type_bytes ≤ 24 * type_count + 12 * element_count },
 }

@@ -2,12 +2,12 @@
 #![tactic(auto)]
 
 mod adding;
+mod asking;
 mod btf;
 mod encoding;
 mod making;
-mod public;
-mod store;
-mod text;
+mod placing;
+mod writer;
 
 pub use btf::Btf;
 pub use rows::TypeRow;

@@ -5,13 +5,12 @@ use Rattle.meaning.specs.Table.{holds, no_table}
 use Rattle.meaning.specs.Questions.{find_from}
 use Rattle.rows.specs.Rows.{decl_of}
 use Rattle.rows.specs.declared.row.TypeRow.{TypeRow}
-use Rattle.table.specs.Kept.{used_rows}
-use Rattle.table.specs.Tables.{table_of}
+use Rattle.table.specs.Tables.{table_of, used_rows}
 use Rattle.table.proofs.btf.Btf.id_by_type_name_kind.Goals as goal
 
 pub returns : goal.returns
 returns c =
-    let s = c.args.self.now.store in
+    let s = c.args.self.now in
     let t = table_of s c.args.strings.now in
     let es = s.elements.now in
     let name = c.args.name.now in

@@ -8,7 +8,7 @@ use Rattle.table.proofs.btf.Btf.to_bytes.Goals as goal
 
 pub returns : goal.returns
 returns g c = record {
-  file = c.to_bytes.ensures;
+  file = c.encode.ensures;
   one_file = one_file_one_table;
   length = length_adds_up;
   examples = examples_hold;
