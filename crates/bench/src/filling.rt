@@ -8,13 +8,10 @@ use layout::{BtfError, Declaration, Linkage};
 use std::alloc::{AllocError, Global};
 use table::Btf;
 
-// The declarations of a chain.
-const CHAIN: usize = 160;
-
 pub type Label = [u8; 12];
 
 // A label: `n`, and a number in eleven digits.
-fn label(number: usize) -> Label {
+fn label(number: u32) -> Label {
     let mut label = *b"n00000000000";
     let mut rest = number;
     for digit in label[1..].iter_mut().rev() {
@@ -71,31 +68,50 @@ fn add_ten(
     for (offset, label) in offsets.iter_mut().zip(labels) {
         *offset = table.add_string(names, label)?;
     }
-    let [a, b, c, d, e, f, g, h, i, j] = offsets;
-    let int = add_alone(table, names, &Int::new(a, 4, 0, 0))?;
-    add_alone(table, names, &Ptr::new(b, before.record))?;
-    let record = table.add_type(names, &Struct::new(c, false, 12), &members(c, int))?;
+    let [
+        int_name,
+        ptr_name,
+        struct_name,
+        typedef_name,
+        _,
+        enum_name,
+        array_name,
+        param_name,
+        func_name,
+        var_name,
+    ] = offsets;
+    let int = add_alone(table, names, &Int::new(int_name, 4, 0, 0))?;
+    add_alone(table, names, &Ptr::new(ptr_name, before.record))?;
+    let record = table.add_type(
+        names,
+        &Struct::new(struct_name, false, 12),
+        &members(struct_name, int),
+    )?;
     let link = before.constant.unwrap_or(int);
-    let alias = add_alone(table, names, &Typedef::new(d, link))?;
+    let alias = add_alone(table, names, &Typedef::new(typedef_name, link))?;
     let constant = add_alone(table, names, &Const::new(alias))?;
-    table.add_type(names, &Enum::new(f, false), &values(f))?;
-    add_alone(table, names, &Array::new(g, record, int, 8))?;
-    let proto = table.add_type(names, &FuncProto::new(int), &params(h, [int, record]))?;
-    add_alone(table, names, &Func::new(i, proto, Linkage::Global))?;
-    add_alone(table, names, &Var::new(j, record, Linkage::Global))?;
+    table.add_type(names, &Enum::new(enum_name, false), &values(enum_name))?;
+    add_alone(table, names, &Array::new(array_name, record, int, 8))?;
+    let proto = table.add_type(
+        names,
+        &FuncProto::new(int),
+        &params(param_name, [int, record]),
+    )?;
+    add_alone(table, names, &Func::new(func_name, proto, Linkage::Global))?;
+    add_alone(table, names, &Var::new(var_name, record, Linkage::Global))?;
     Ok(Before {
         record,
         constant: Some(constant),
     })
 }
 
-// Adds a declaration for each label. The string area comes beside the table, as with each of its calls.
+// Adds a declaration for each label; a chain begins at an Int. The string area comes beside the table, as with each of its calls.
 pub fn fill(table: &mut Btf, names: &mut [u8], labels: &[Label]) -> Result<(), BtfError> {
     let mut before = Before {
         record: 0,
         constant: None,
     };
-    for chain in labels.chunks(CHAIN) {
+    for chain in labels.chunks(Size::CHAIN as usize) {
         before.constant = None;
         for ten in chain.chunks(10) {
             before = add_ten(table, names, ten, before)?;
@@ -104,8 +120,10 @@ pub fn fill(table: &mut Btf, names: &mut [u8], labels: &[Label]) -> Result<(), B
     Ok(())
 }
 
-// The id where the chain of a number begins, the Typedef of its last ten: 31 links lead from it to its end.
-pub fn chain_head(number: usize) -> u32 {
-    let behind = number.saturating_add(1).saturating_mul(CHAIN);
-    u32::try_from(behind.saturating_sub(6)).unwrap_or(0)
+// The ids where the chains begin, each the Typedef of its last ten: 31 links lead from there to the end. The first
+// declaration has id 1.
+pub fn chain_heads(heap: Global, size: Size) -> Result<Vec<u32>, AllocError> {
+    (154..=size.declarations())
+        .step_by(Size::CHAIN as usize)
+        .collect(heap)
 }

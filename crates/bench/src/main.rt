@@ -34,7 +34,7 @@ fn run(rt: &HostRuntime) -> Result<(), Fault> {
     if sizes.is_empty() {
         println!(rt;
             "usage: bench all | SIZE.., each of {} to {} declarations",
-            Size::SMALLEST,
+            Size::CHAIN,
             Size::LARGEST
         )?;
         return Ok(());

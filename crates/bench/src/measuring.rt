@@ -1,6 +1,6 @@
 // All times of one size, and the row that says them.
 use crate::fault::Fault;
-use crate::filling::{Label, chain_head, fill, labels};
+use crate::filling::{Label, chain_heads, fill, labels};
 use crate::size::Size;
 use crate::timing::Plan;
 use elements::Element;
@@ -13,7 +13,7 @@ use table::{Btf, TypeRow};
 // Times are in seconds.
 #[derive(Clone, Copy)]
 pub struct Measured {
-    size: usize,
+    size: Size,
     bytes: usize,
     build: f64,
     encode: f64,
@@ -35,7 +35,7 @@ impl Measured {
 
 impl fmt::Display for Measured {
     fn fmt<W: fmt::Write>(&self, f: &mut fmt::Formatter<W>) -> fmt::Result {
-        write!(f, "{:>12}  {:>10}", self.size, self.bytes)?;
+        write!(f, "{:>12}  {:>10}", self.size.declarations(), self.bytes)?;
         write!(f, "  {:>8.1}", self.build * 1e6)?;
         write!(
             f,
@@ -95,12 +95,13 @@ fn search(table: &Btf, names: &mut [u8], name: &Label, id: u32) -> Result<(), Fa
     Ok(())
 }
 
-// Walks along a chain.
-fn walk(table: &Btf, names: &[u8], chain: Option<usize>) -> Result<(), Fault> {
-    let head = chain_head(chain.ok_or(Fault::Unlike)?);
-    let (_, links) = table.resolve_type(names, head)?;
-    if links != 31 {
-        return Err(Fault::Unlike);
+// Walks along each chain.
+fn walk_each(table: &Btf, names: &[u8], heads: &[u32]) -> Result<(), Fault> {
+    for head in heads {
+        let (_, links) = table.resolve_type(names, *head)?;
+        if links != 31 {
+            return Err(Fault::Unlike);
+        }
     }
     Ok(())
 }
@@ -111,7 +112,7 @@ pub fn measure(rt: &HostRuntime, size: Size) -> Result<Measured, Fault> {
     let all = labels(heap, size)?;
     let last = all.last().ok_or(Fault::Word)?;
     let mut rows = vec![in heap; TypeRow::empty(); size.rows()]?;
-    let mut elements = vec![in heap; Element::empty(); size.declarations()]?;
+    let mut elements = vec![in heap; Element::empty(); size.elements()]?;
     let mut names = vec![in heap; 0u8; size.string_bytes()]?;
     let build = plan.fastest(rt, || {
         let mut table = Btf::new(&mut rows, &mut elements, &mut names);
@@ -127,14 +128,15 @@ pub fn measure(rt: &HostRuntime, size: Size) -> Result<Measured, Fault> {
     let copy = plan.fastest(rt, || copy(&out, &mut copied))?;
     let id = table.id_by_type_name_kind(&names, last, BtfKind::Var)?;
     let search = plan.fastest(rt, || search(&table, &mut names, last, id))?;
-    let mut chains = (0..size.chains()).cycle();
-    let walk = Plan::WALKS.fastest(rt, || walk(&table, &names, chains.next()))?;
+    let heads = chain_heads(heap, size)?;
+    let walks = Plan::for_walks(size).fastest(rt, || walk_each(&table, &names, &heads))?;
+    let walk = walks / f64::from(size.chains());
     let checksum = checksum_of(&out);
     if checksum != checksum_of(&copied) {
         return Err(Fault::Unlike);
     }
     Ok(Measured {
-        size: size.declarations(),
+        size,
         bytes,
         build,
         encode,

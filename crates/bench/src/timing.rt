@@ -1,6 +1,4 @@
 // Times of single works in seconds: the best of several rounds, each of so many works that a clock can tell.
-ghost use Rattle.std.specs.Prelude.{◌≤◌};
-
 use crate::fault::Fault;
 use crate::size::Size;
 use std::time::Instant;
@@ -13,18 +11,20 @@ pub struct Plan {
 }
 
 impl Plan {
-    // A walk takes the same time at every size, but for what the caches hold.
-    pub const WALKS: Plan = Plan {
-        works: 100_000,
-        rounds: 20,
-    };
-
     // For tables of a size: the smaller they are, the more often.
     pub fn for_size(size: Size) -> Plan {
-        let size = (size.declarations() as u64).max(1);
+        let size = size.declarations();
         Plan {
-            works: (100_000 / size).clamp(1, 1_000) as u32,
-            rounds: (20_000_000 / size).clamp(10, 500) as u32,
+            works: (100_000 / size).clamp(1, 1_000),
+            rounds: (20_000_000 / size).clamp(10, 500),
+        }
+    }
+
+    // For works of one walk along each chain: a walk takes the same time at every size, but for what the caches hold.
+    pub fn for_walks(size: Size) -> Plan {
+        Plan {
+            works: 100_000 / size.chains(),
+            rounds: 20,
         }
     }
 
