@@ -1,51 +1,57 @@
 // The tables that are timed. Ten declarations repeat: Int, Ptr, Struct with 3 members, Typedef, Const, Enum with 2
 // values, Array, FuncProto with 2 params, Func, Var. Each brings a name of 12 bytes. A Typedef is of the Const
 // of the ten before, and a Const of the Typedef before it, so that links make chains, 16 tens long.
-use crate::fault::Fault;
+use crate::size::Size;
 use declare::{Array, Const, Enum, Func, FuncProto, Int, Ptr, Struct, Typedef, Var};
 use elements::{BtfEnum, BtfMember, BtfParam};
 use layout::{BtfError, Declaration, Linkage};
-use std::alloc::Global;
+use std::alloc::{AllocError, Global};
 use table::Btf;
 
-// The fewest declarations, one whole chain.
-pub const SMALLEST: usize = 160;
-
-// The most, since a table has places for 1,048,575 declarations, of which id 0 takes one.
-pub const LARGEST: usize = 1_048_570;
-
-// The tens that make a chain.
-const TENS: usize = 16;
+// The declarations of a chain.
+const CHAIN: usize = 160;
 
 pub type Label = [u8; 12];
-
-// The ids of the last declarations that others name.
-#[derive(Clone, Copy)]
-struct Recent {
-    int: u32,
-    record: u32,
-    alias: u32,
-    constant: u32,
-    proto: u32,
-}
 
 // A label: `n`, and a number in eleven digits.
 fn label(number: usize) -> Label {
     let mut label = *b"n00000000000";
     let mut rest = number;
-    for place in (1..12).rev() {
-        label[place] = b'0' + (rest % 10) as u8;
+    for digit in label[1..].iter_mut().rev() {
+        *digit = b'0' + (rest % 10) as u8;
         rest /= 10;
     }
     label
 }
 
-pub fn labels(heap: Global, size: usize) -> Result<Vec<Label>, Fault> {
-    let mut all = Vec::new(heap);
-    for number in 0..size {
-        all.push(label(number))?;
-    }
-    Ok(all)
+pub fn labels(heap: Global, size: Size) -> Result<Vec<Label>, AllocError> {
+    (0..size.declarations()).map(label).collect(heap)
+}
+
+fn members(name_offset: u32, btf_type: u32) -> [BtfMember; 3] {
+    [0, 32, 64].map(|offset| BtfMember {
+        name_offset,
+        btf_type,
+        offset,
+    })
+}
+
+fn values(name_offset: u32) -> [BtfEnum; 2] {
+    [0, 1].map(|value| BtfEnum { name_offset, value })
+}
+
+fn params(name_offset: u32, types: [u32; 2]) -> [BtfParam; 2] {
+    types.map(|btf_type| BtfParam {
+        name_offset,
+        btf_type,
+    })
+}
+
+// What a ten names of the one before: its Struct, and its Const where that is of the same chain.
+#[derive(Clone, Copy)]
+struct Before {
+    record: u32,
+    constant: Option<u32>,
 }
 
 // Adds a declaration that has no elements.
@@ -54,121 +60,52 @@ fn add_alone(table: &mut Btf, names: &[u8], declaration: &Declaration) -> Result
     table.add_type(names, declaration, &none)
 }
 
-fn add_record(table: &mut Btf, names: &[u8], name: u32, int: u32) -> Result<u32, BtfError> {
-    let first = BtfMember {
-        name_offset: name,
-        btf_type: int,
-        offset: 0,
-    };
-    let second = BtfMember {
-        name_offset: name,
-        btf_type: int,
-        offset: 32,
-    };
-    let third = BtfMember {
-        name_offset: name,
-        btf_type: int,
-        offset: 64,
-    };
-    table.add_type(
-        names,
-        &Struct::new(name, false, 12),
-        &[first, second, third],
-    )
-}
-
-fn add_enum(table: &mut Btf, names: &[u8], name: u32) -> Result<u32, BtfError> {
-    let off = BtfEnum {
-        name_offset: name,
-        value: 0,
-    };
-    let on = BtfEnum {
-        name_offset: name,
-        value: 1,
-    };
-    table.add_type(names, &Enum::new(name, false), &[off, on])
-}
-
-fn add_proto(table: &mut Btf, names: &[u8], name: u32, recent: &Recent) -> Result<u32, BtfError> {
-    let first = BtfParam {
-        name_offset: name,
-        btf_type: recent.int,
-    };
-    let second = BtfParam {
-        name_offset: name,
-        btf_type: recent.record,
-    };
-    table.add_type(names, &FuncProto::new(recent.int), &[first, second])
-}
-
-// Adds a name and the declaration of a place among the ten.
-fn add_next(
+// Adds the names of ten labels, and then their declarations.
+fn add_ten(
     table: &mut Btf,
     names: &mut [u8],
-    label: &Label,
-    place: usize,
-    recent: &mut Recent,
-) -> Result<(), BtfError> {
-    let name = table.add_string(names, label)?;
-    match place {
-        0 => recent.int = add_alone(table, names, &Int::new(name, 4, 0, 0))?,
-        1 => {
-            add_alone(table, names, &Ptr::new(name, recent.record))?;
-        }
-        2 => recent.record = add_record(table, names, name, recent.int)?,
-        3 => recent.alias = add_alone(table, names, &Typedef::new(name, recent.constant))?,
-        4 => recent.constant = add_alone(table, names, &Const::new(recent.alias))?,
-        5 => {
-            add_enum(table, names, name)?;
-        }
-        6 => {
-            add_alone(
-                table,
-                names,
-                &Array::new(name, recent.record, recent.int, 8),
-            )?;
-        }
-        7 => recent.proto = add_proto(table, names, name, recent)?,
-        8 => {
-            add_alone(
-                table,
-                names,
-                &Func::new(name, recent.proto, Linkage::Global),
-            )?;
-        }
-        _ => {
-            add_alone(
-                table,
-                names,
-                &Var::new(name, recent.record, Linkage::Global),
-            )?;
-        }
+    labels: &[Label],
+    before: Before,
+) -> Result<Before, BtfError> {
+    let mut offsets = [0; 10];
+    for (offset, label) in offsets.iter_mut().zip(labels) {
+        *offset = table.add_string(names, label)?;
     }
-    Ok(())
+    let [a, b, c, d, e, f, g, h, i, j] = offsets;
+    let int = add_alone(table, names, &Int::new(a, 4, 0, 0))?;
+    add_alone(table, names, &Ptr::new(b, before.record))?;
+    let record = table.add_type(names, &Struct::new(c, false, 12), &members(c, int))?;
+    let link = before.constant.unwrap_or(int);
+    let alias = add_alone(table, names, &Typedef::new(d, link))?;
+    let constant = add_alone(table, names, &Const::new(alias))?;
+    table.add_type(names, &Enum::new(f, false), &values(f))?;
+    add_alone(table, names, &Array::new(g, record, int, 8))?;
+    let proto = table.add_type(names, &FuncProto::new(int), &params(h, [int, record]))?;
+    add_alone(table, names, &Func::new(i, proto, Linkage::Global))?;
+    add_alone(table, names, &Var::new(j, record, Linkage::Global))?;
+    Ok(Before {
+        record,
+        constant: Some(constant),
+    })
 }
 
-// Adds a declaration for each label.
+// Adds a declaration for each label. The string area comes beside the table, as with each of its calls.
 pub fn fill(table: &mut Btf, names: &mut [u8], labels: &[Label]) -> Result<(), BtfError> {
-    let mut recent = Recent {
-        int: 0,
+    let mut before = Before {
         record: 0,
-        alias: 0,
-        constant: 0,
-        proto: 0,
+        constant: None,
     };
-    for (i, label) in labels.iter().enumerate() {
-        // at its first Typedef a chain begins anew, from an Int
-        if i % (10 * TENS) == 3 {
-            recent.constant = recent.int;
+    for chain in labels.chunks(CHAIN) {
+        before.constant = None;
+        for ten in chain.chunks(10) {
+            before = add_ten(table, names, ten, before)?;
         }
-        add_next(table, names, label, i % 10, &mut recent)?;
     }
     Ok(())
 }
 
-// The id where the chain of a number begins: 31 links lead from it to its end.
+// The id where the chain of a number begins, the Typedef of its last ten: 31 links lead from it to its end.
 pub fn chain_head(number: usize) -> u32 {
-    // the Typedef of the chain's last ten
-    let tens = number.wrapping_mul(TENS).wrapping_add(TENS - 1);
-    u32::try_from(tens.wrapping_mul(10).wrapping_add(4)).unwrap_or(0)
+    let behind = number.saturating_add(1).saturating_mul(CHAIN);
+    u32::try_from(behind.saturating_sub(6)).unwrap_or(0)
 }

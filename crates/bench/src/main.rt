@@ -9,42 +9,34 @@
 mod fault;
 mod filling;
 mod measuring;
+mod size;
 mod timing;
 
 use crate::fault::Fault;
-use crate::filling::{LARGEST, SMALLEST};
 use crate::measuring::{Measured, measure};
+use crate::size::Size;
 use std::env;
 
-const ALL_SIZES: [usize; 4] = [1_000, 10_000, 100_000, 1_000_000];
-
-// The sizes that the words name, each made a whole number of tens.
-fn sizes_of(rt: &HostRuntime) -> Result<Vec<usize>, Fault> {
+fn sizes_of(rt: &HostRuntime) -> Result<Vec<Size>, Fault> {
     let mut sizes = Vec::new(rt.alloc());
     for word in env::args(rt)?.skip(1) {
         if word.as_str() == "all" {
-            sizes.extend_from_slice(&ALL_SIZES)?;
+            sizes.extend_from_slice(&Size::ALL)?;
         } else {
-            sizes.push(size_of(word.as_str())?)?;
+            sizes.push(word.parse()?)?;
         }
     }
     Ok(sizes)
 }
 
-fn size_of(word: &str) -> Result<usize, Fault> {
-    let Ok(size) = word.parse::<usize>() else {
-        return Err(Fault::Word);
-    };
-    if LARGEST < size {
-        return Err(Fault::Word);
-    }
-    Ok((size.max(SMALLEST) + 9) / 10 * 10)
-}
-
 fn run(rt: &HostRuntime) -> Result<(), Fault> {
     let sizes = sizes_of(rt)?;
     if sizes.is_empty() {
-        println!(rt; "usage: bench all | SIZE.., each of {SMALLEST} to {LARGEST} declarations")?;
+        println!(rt;
+            "usage: bench all | SIZE.., each of {} to {} declarations",
+            Size::SMALLEST,
+            Size::LARGEST
+        )?;
         return Ok(());
     }
     println!(rt; "{}", Measured::HEADING)?;

@@ -1,21 +1,14 @@
 // All times of one size, and the row that says them.
 use crate::fault::Fault;
-use crate::filling::{Label, SMALLEST, fill, labels};
-use crate::timing::{
-    Plan, time_building, time_copying, time_encoding, time_searching, time_walking,
-};
+use crate::filling::{Label, chain_head, fill, labels};
+use crate::size::Size;
+use crate::timing::Plan;
 use elements::Element;
-use layout::{BtfError, BtfKind};
+use layout::BtfKind;
 use order::LittleEndian;
 use std::fmt;
 use std::num::nearest_u64_to_f64;
 use table::{Btf, TypeRow};
-
-// A walk takes the same time at every size, but for what the caches hold.
-const WALKS: Plan = Plan {
-    works: 100_000,
-    rounds: 20,
-};
 
 // Times are in seconds.
 #[derive(Clone, Copy)]
@@ -63,47 +56,85 @@ impl fmt::Display for Measured {
 }
 
 fn checksum_of(bytes: &[u8]) -> u64 {
-    let mut sum = 0u64;
-    for byte in bytes {
-        sum = sum.wrapping_mul(31).wrapping_add(u64::from(*byte));
-    }
-    sum
+    bytes.iter().fold(0u64, |sum, byte| {
+        sum.wrapping_mul(31).wrapping_add(u64::from(*byte))
+    })
 }
 
-// How many bytes the file of a table has, as the refusal of an empty buffer says.
-fn file_length(table: &Btf, names: &[u8]) -> Result<usize, BtfError> {
-    match table.to_bytes(names, &LittleEndian, &mut []) {
-        Ok(length) => Ok(length),
-        Err(BtfError::OutputTooShort { needed }) => Ok(needed),
-        Err(e) => Err(e),
+// Changes a byte before a work, so that no work can be left out.
+fn spoil(byte: Option<&mut u8>) {
+    if let Some(byte) = byte {
+        *byte = byte.wrapping_add(1);
     }
 }
 
-// Times a table that took `build` seconds to build and whose last name is `last`.
-fn measure_built(
-    rt: &HostRuntime,
-    table: &Btf,
-    names: &mut [u8],
-    last: &Label,
-    size: usize,
-    build: f64,
-) -> Result<Measured, Fault> {
+fn encode(table: &Btf, names: &[u8], out: &mut [u8]) -> Result<(), Fault> {
+    spoil(out.first_mut());
+    table.to_bytes(names, &LittleEndian, out)?;
+    Ok(())
+}
+
+fn copy(from: &[u8], to: &mut [u8]) -> Result<(), Fault> {
+    spoil(to.first_mut());
+    if from.len() != to.len() {
+        return Err(Fault::Unlike);
+    }
+    to.copy_from_slice(from);
+    if to.first() != from.first() {
+        return Err(Fault::Unlike);
+    }
+    Ok(())
+}
+
+// Searches the name that the Var `id` has. The last byte of the string area is no name's.
+fn search(table: &Btf, names: &mut [u8], name: &Label, id: u32) -> Result<(), Fault> {
+    spoil(names.last_mut());
+    if table.id_by_type_name_kind(names, name, BtfKind::Var)? != id {
+        return Err(Fault::Unlike);
+    }
+    Ok(())
+}
+
+// Walks along a chain.
+fn walk(table: &Btf, names: &[u8], chain: Option<usize>) -> Result<(), Fault> {
+    let head = chain_head(chain.ok_or(Fault::Unlike)?);
+    let (_, links) = table.resolve_type(names, head)?;
+    if links != 31 {
+        return Err(Fault::Unlike);
+    }
+    Ok(())
+}
+
+pub fn measure(rt: &HostRuntime, size: Size) -> Result<Measured, Fault> {
     let heap = rt.alloc();
     let plan = Plan::for_size(size);
-    let bytes = file_length(table, names)?;
+    let all = labels(heap, size)?;
+    let last = all.last().ok_or(Fault::Word)?;
+    let mut rows = vec![in heap; TypeRow::empty(); size.rows()]?;
+    let mut elements = vec![in heap; Element::empty(); size.declarations()]?;
+    let mut names = vec![in heap; 0u8; size.string_bytes()]?;
+    let build = plan.fastest(rt, || {
+        let mut table = Btf::new(&mut rows, &mut elements, &mut names);
+        fill(&mut table, &mut names, &all)?;
+        Ok(())
+    })?;
+    let mut table = Btf::new(&mut rows, &mut elements, &mut names);
+    fill(&mut table, &mut names, &all)?;
+    let bytes = filing::file_length(&table, &names)?;
     let mut out = vec![in heap; 0u8; bytes]?;
     let mut copied = vec![in heap; 0u8; bytes]?;
-    let encode = time_encoding(rt, table, names, out.as_mut_slice(), plan)?;
-    let copy = time_copying(rt, out.as_slice(), copied.as_mut_slice(), plan)?;
-    let id = table.id_by_type_name_kind(names, last, BtfKind::Var)?;
-    let search = time_searching(rt, table, names, last, id, plan)?;
-    let walk = time_walking(rt, table, names, size / SMALLEST, WALKS)?;
-    let checksum = checksum_of(out.as_slice());
-    if checksum != checksum_of(copied.as_slice()) {
+    let encode = plan.fastest(rt, || encode(&table, &names, &mut out))?;
+    let copy = plan.fastest(rt, || copy(&out, &mut copied))?;
+    let id = table.id_by_type_name_kind(&names, last, BtfKind::Var)?;
+    let search = plan.fastest(rt, || search(&table, &mut names, last, id))?;
+    let mut chains = (0..size.chains()).cycle();
+    let walk = Plan::WALKS.fastest(rt, || walk(&table, &names, chains.next()))?;
+    let checksum = checksum_of(&out);
+    if checksum != checksum_of(&copied) {
         return Err(Fault::Unlike);
     }
     Ok(Measured {
-        size,
+        size: size.declarations(),
         bytes,
         build,
         encode,
@@ -112,32 +143,4 @@ fn measure_built(
         walk,
         checksum,
     })
-}
-
-pub fn measure(rt: &HostRuntime, size: usize) -> Result<Measured, Fault> {
-    let heap = rt.alloc();
-    let all = labels(heap, size)?;
-    let Some(last) = all.last() else {
-        return Err(Fault::Word);
-    };
-    let mut rows = vec![in heap; TypeRow::empty(); size.saturating_add(1)]?;
-    let mut elements = vec![in heap; Element::empty(); size]?;
-    // the empty name, the names, and a byte that is no name's
-    let room = size.saturating_mul(13).saturating_add(2);
-    let mut names = vec![in heap; 0u8; room]?;
-    let build = time_building(
-        rt,
-        rows.as_mut_slice(),
-        elements.as_mut_slice(),
-        names.as_mut_slice(),
-        all.as_slice(),
-        Plan::for_size(size),
-    )?;
-    let mut table = Btf::new(
-        rows.as_mut_slice(),
-        elements.as_mut_slice(),
-        names.as_mut_slice(),
-    );
-    fill(&mut table, names.as_mut_slice(), all.as_slice())?;
-    measure_built(rt, &table, names.as_mut_slice(), last, size, build)
 }
