@@ -1,4 +1,5 @@
 // What ends the program early.
+use filing::FilingError;
 use layout::BtfError;
 use std::alloc::AllocError;
 use std::io;
@@ -12,4 +13,14 @@ pub enum Fault {
     Memory(#[from(alloc)] AllocError),
     #[error(transparent)]
     Io(#[from] io::Error),
+}
+
+// A file is missing for one of the faults above.
+impl From<FilingError> for Fault {
+    fn from(error: FilingError) -> Fault {
+        match error {
+            FilingError::Table(refusal) => Fault::Table(refusal),
+            FilingError::Memory => Fault::Memory(AllocError),
+        }
+    }
 }

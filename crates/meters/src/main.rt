@@ -27,8 +27,11 @@ const MOST_ELEMENTS: usize = 64;
 const MOST_NAME_BYTES: usize = 1024;
 
 // Fills a new table, asks it, encodes it and serves the gateways.
-fn tell(rt: &HostRuntime, table: &mut Btf, names: &mut [u8]) -> Result<(), Fault> {
-    let meter = Meter::declare(&mut Recorder { rt, table, names })?;
+fn tell(mut recorder: Recorder) -> Result<(), Fault> {
+    let meter = Meter::declare(&mut recorder)?;
+    let Recorder { rt, table, names } = recorder;
+    let table = &table;
+    let names = names.as_slice();
     Questions { rt, table, names }.ask_all(&meter)?;
     let files = Files::encode(rt.alloc(), table, names)?;
     files.print(rt)?;
@@ -40,12 +43,12 @@ fn run(rt: &HostRuntime) -> Result<(), Fault> {
     let mut types = vec![in heap; TypeRow::empty(); MOST_DECLARATIONS]?;
     let mut elements = vec![in heap; Element::empty(); MOST_ELEMENTS]?;
     let mut names = vec![in heap; 0u8; MOST_NAME_BYTES]?;
-    let mut table = Btf::new(
+    let table = Btf::new(
         types.as_mut_slice(),
         elements.as_mut_slice(),
         names.as_mut_slice(),
     );
-    tell(rt, &mut table, names.as_mut_slice())
+    tell(Recorder { rt, table, names })
 }
 
 fn main(rt: HostRuntime) -> anyhow::Result<()> {

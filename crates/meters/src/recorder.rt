@@ -8,15 +8,17 @@ use table::Btf;
 #[derive(Drop)]
 pub struct Recorder<'r, 't> {
     pub rt: &'r HostRuntime,
-    pub table: &'r mut Btf<'t>,
+    pub table: Btf<'t>,
     // the string area of the table
-    pub names: &'r mut [u8],
+    pub names: Vec<u8>,
 }
 
 impl Recorder<'_, '_> {
     // Adds a name, and answers where it stands.
     pub fn name(&mut self, text: &str) -> Result<u32, Fault> {
-        let at = self.table.add_string(self.names, text.as_bytes())?;
+        let at = self
+            .table
+            .add_string(self.names.as_mut_slice(), text.as_bytes())?;
         println!(self.rt; "name {at} {text}")?;
         Ok(at)
     }
@@ -54,9 +56,10 @@ impl Recorder<'_, '_> {
         declaration: &Declaration,
         elements: &[E],
     ) -> Result<u32, Fault> {
-        let id = self.table.add_type(self.names, declaration, elements)?;
-        let head = self.table.type_by_id(self.names, id)?;
-        let name = self.table.type_name(self.names, id)?;
+        let names = self.names.as_slice();
+        let id = self.table.add_type(names, declaration, elements)?;
+        let head = self.table.type_by_id(names, id)?;
+        let name = self.table.type_name(names, id)?;
         println!(self.rt; "id {id} {}", Heading { head, name })?;
         Ok(id)
     }

@@ -1,5 +1,5 @@
 // A swap sheet: how it is read, and cut into lines and fields.
-ghost use Rattle.std.specs.Prelude.{◌≡◌, ℕ, ◌<◌, ◌≤◌, length, IfOk, MatchOption};
+ghost use Rattle.std.specs.Prelude.{◌≡◌, ℕ, ◌<◌, ◌≤◌, length, vec_len, IfOk, MatchOption};
 ghost use Rattle.meters.specs.Sheets.{Split, Lacks, AllPrintable, Named, Fields, order_word};
 
 use crate::files::Endian;
@@ -54,7 +54,9 @@ impl Sheet {
     }
 
     // The lines with their ends. The last may lack a line break.
-    pub fn lines(&self) -> LinesWithTerminator<'_> {
+    pub fn lines(&self) -> LinesWithTerminator<'_>
+        ensures { length result ≤ vec_len self.now.bytes }
+    {
         self.bytes.as_slice().lines_with_terminator()
     }
 }
