@@ -4,10 +4,6 @@ use Rattle.std.proofs.lemmas.List.{get_or-map, get_or_append_left, get_or_push, 
 use Rattle.std.proofs.lemmas.Bool.{cases_eq}
 use Rattle.meters.specs.Numbering.{Absent, Numbered, Unlike, Kept}
 
--- the contents of the element at i
-pub content : {X : Type 0} (f : X → List ℕ) (xs : List X) (i : ℕ) (x : X) → i < length xs → x ≡ get_or xs i x → get_or (map f xs) i [] ≡ f x
-content f xs i x h e = get_or-map f xs i x [] h ∙ ap f (sym e)
-
 -- a file behind the others leaves those as they are
 pub more_kept : (files : List (List ℕ)) (bytes : List ℕ) → Kept files (files ++ bytes ∷ [])
 more_kept files bytes k h = get_or_append_left files (bytes ∷ []) [] k h

@@ -11,10 +11,6 @@ Without bytes b n = (k : ℕ) → k < n → slice_index bytes k ≢ b
 abbrev pub Lacks : List ℕ → ℕ → Type 0
 Lacks bytes b = Without bytes b (length bytes)
 
--- the first byte that is b stands at i
-abbrev pub First : List ℕ → ℕ → ℕ → Type 0
-First bytes b i = (i < length bytes) × (slice_index bytes i ≡ b) × Without bytes b i
-
 -- the bytes are cut at the first b
 abbrev pub Split : List ℕ → ℕ → List ℕ → List ℕ → Type 0
 Split bytes b before behind = (bytes ≡ before ++ b ∷ behind) × Lacks before b

@@ -1,55 +1,26 @@
 // What ends the program early.
-use crate::refusal::Refusal;
+use filing::FilingError;
 use layout::BtfError;
-use std::alloc::{AllocError, AllocFailed};
-use std::error::Error;
-use std::{fmt, io};
+use std::alloc::AllocError;
+use std::io;
+use thiserror::Error;
 
-#[derive(Drop)]
+#[derive(Debug, Drop, Error)]
 pub enum Fault {
-    Table(BtfError),
-    Memory,
-    Io(io::Error),
+    #[error("the table {0}")]
+    Table(#[from] BtfError),
+    #[error("no memory is left")]
+    Memory(#[from(alloc)] AllocError),
+    #[error(transparent)]
+    Io(#[from] io::Error),
 }
 
-impl From<BtfError> for Fault {
-    fn from(e: BtfError) -> Fault {
-        Fault::Table(e)
-    }
-}
-
-impl From<AllocError> for Fault {
-    fn from(_e: AllocError) -> Fault {
-        Fault::Memory
-    }
-}
-
-impl<T: Drop> From<AllocFailed<T>> for Fault {
-    fn from(_e: AllocFailed<T>) -> Fault {
-        Fault::Memory
-    }
-}
-
-impl From<io::Error> for Fault {
-    fn from(e: io::Error) -> Fault {
-        Fault::Io(e)
-    }
-}
-
-impl fmt::Display for Fault {
-    fn fmt<W: fmt::Write>(&self, f: &mut fmt::Formatter<W>) -> fmt::Result {
-        match self {
-            Fault::Table(e) => write!(f, "the table {}", Refusal(*e)),
-            Fault::Memory => f.write_str("no memory is left"),
-            Fault::Io(e) => write!(f, "{e}"),
+// A file is missing for one of the faults above.
+impl From<FilingError> for Fault {
+    fn from(error: FilingError) -> Fault {
+        match error {
+            FilingError::Table(refusal) => Fault::Table(refusal),
+            FilingError::Memory => Fault::Memory(AllocError),
         }
     }
 }
-
-impl fmt::Debug for Fault {
-    fn fmt<W: fmt::Write>(&self, f: &mut fmt::Formatter<W>) -> fmt::Result {
-        write!(f, "{self}")
-    }
-}
-
-impl Error for Fault {}

@@ -1,10 +1,9 @@
 // The two files of a table, and how they are printed.
-use crate::fault::Fault;
 use crate::shown::Hex;
-use layout::BtfError;
-use order::{BigEndian, ByteOrder, LittleEndian};
+use filing::FilingError;
+use order::{BigEndian, LittleEndian};
 use std::alloc::Global;
-use std::io;
+use std::{fmt, io};
 use table::Btf;
 
 // The byte order of a gateway's machine.
@@ -14,6 +13,15 @@ pub enum Endian {
     Big,
 }
 
+impl fmt::Display for Endian {
+    fn fmt<W: fmt::Write>(&self, f: &mut fmt::Formatter<W>) -> fmt::Result {
+        f.write_str(match self {
+            Endian::Little => "little",
+            Endian::Big => "big",
+        })
+    }
+}
+
 #[derive(Drop)]
 pub struct Files {
     little: Vec<u8>,
@@ -21,9 +29,9 @@ pub struct Files {
 }
 
 impl Files {
-    pub fn encode(heap: Global, table: &Btf, names: &[u8]) -> Result<Files, Fault> {
-        let little = encoded(heap, table, names, &LittleEndian)?;
-        let big = encoded(heap, table, names, &BigEndian)?;
+    pub fn encode(heap: Global, table: &Btf, names: &[u8]) -> Result<Files, FilingError> {
+        let little = filing::to_vec(heap, table, names, &LittleEndian)?;
+        let big = filing::to_vec(heap, table, names, &BigEndian)?;
         Ok(Files { little, big })
     }
 
@@ -36,38 +44,19 @@ impl Files {
     }
 
     pub fn print(&self, rt: &HostRuntime) -> io::Result<()> {
-        print_file(rt, "little", self.of(Endian::Little))?;
-        print_file(rt, "big", self.of(Endian::Big))
+        for endian in [Endian::Little, Endian::Big] {
+            self.print_file(rt, endian)?;
+        }
+        Ok(())
     }
-}
 
-// How many bytes the file of a table has, as the refusal of an empty buffer says.
-fn file_length<O: ByteOrder>(table: &Btf, names: &[u8], order: &O) -> Result<usize, BtfError> {
-    match table.to_bytes(names, order, &mut []) {
-        Ok(length) => Ok(length),
-        Err(BtfError::OutputTooShort { needed }) => Ok(needed),
-        Err(e) => Err(e),
+    fn print_file(&self, rt: &HostRuntime, endian: Endian) -> io::Result<()> {
+        let bytes = self.of(endian);
+        let length = bytes.len();
+        println!(rt; "{endian} endian, {length} bytes")?;
+        for line in bytes.chunks(32) {
+            println!(rt; "{}", Hex(line))?;
+        }
+        Ok(())
     }
-}
-
-fn encoded<O: ByteOrder>(
-    heap: Global,
-    table: &Btf,
-    names: &[u8],
-    order: &O,
-) -> Result<Vec<u8>, Fault> {
-    let length = file_length(table, names, order)?;
-    let mut bytes = vec![in heap; 0u8; length]?;
-    let written = table.to_bytes(names, order, bytes.as_mut_slice())?;
-    bytes.truncate(written);
-    Ok(bytes)
-}
-
-fn print_file(rt: &HostRuntime, order: &str, bytes: &[u8]) -> io::Result<()> {
-    let length = bytes.len();
-    println!(rt; "{order} endian, {length} bytes")?;
-    for line in bytes.chunks(32) {
-        println!(rt; "{}", Hex(line))?;
-    }
-    Ok(())
 }

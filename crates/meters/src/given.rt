@@ -1,6 +1,6 @@
 // The files that gateways were given, numbered from 1 in order of first appearance. Equal bytes have one number,
 // and unlike bytes have unlike numbers.
-ghost use Rattle.std.specs.Prelude.{◌≡◌, [], map, IfOk, vec_items, Decides, MatchOption};
+ghost use Rattle.std.specs.Prelude.{◌≡◌, [], map, IfOk, vec_items, MatchOption};
 ghost use Rattle.meters.specs.Numbering.{Absent, Stands, Numbered, Unlike, Kept};
 
 use std::alloc::{AllocError, Global};
@@ -40,20 +40,12 @@ impl Given {
     }
 }
 
-fn same_file(a: &[u8], b: &[u8]) -> bool
-    ensures { Decides result (a.now ≡ b.now) }
-{
-    a == b
-}
-
 // The place of the file with these bytes.
 fn place_of_file(files: &[Vec<u8>], bytes: &[u8]) -> Option<usize>
     ensures { MatchOption result (Absent (map vec_items files.now) bytes.now) (λ i. Stands (map vec_items files.now) i bytes.now) }
 {
-    for (i, file) in files.iter().enumerate() {
-        if same_file(file.as_slice(), bytes) {
-            return Some(i);
-        }
-    }
-    None
+    files
+        .iter()
+        .map(Vec::as_slice)
+        .position(|file| file == bytes)
 }

@@ -8,13 +8,14 @@ mod given;
 mod meter;
 mod questions;
 mod recorder;
-mod refusal;
 mod sheet;
 mod shown;
 mod swaps;
 
 use crate::fault::Fault;
 use crate::files::Files;
+use crate::meter::Meter;
+use crate::questions::Questions;
 use crate::recorder::Recorder;
 use elements::Element;
 use table::{Btf, TypeRow};
@@ -26,11 +27,12 @@ const MOST_ELEMENTS: usize = 64;
 const MOST_NAME_BYTES: usize = 1024;
 
 // Fills a new table, asks it, encodes it and serves the gateways.
-fn tell(rt: &HostRuntime, table: &mut Btf, names: Vec<u8>) -> Result<(), Fault> {
-    let mut recorder = Recorder { rt, names };
-    let meter = meter::declare_all(&mut recorder, table)?;
-    let names = recorder.names.as_slice();
-    questions::ask_all(rt, table, names, &meter)?;
+fn tell(mut recorder: Recorder) -> Result<(), Fault> {
+    let meter = Meter::declare(&mut recorder)?;
+    let Recorder { rt, table, names } = recorder;
+    let table = &table;
+    let names = names.as_slice();
+    Questions { rt, table, names }.ask_all(&meter)?;
     let files = Files::encode(rt.alloc(), table, names)?;
     files.print(rt)?;
     swaps::serve(rt, &files)
@@ -38,15 +40,15 @@ fn tell(rt: &HostRuntime, table: &mut Btf, names: Vec<u8>) -> Result<(), Fault> 
 
 fn run(rt: &HostRuntime) -> Result<(), Fault> {
     let heap = rt.alloc();
-    let mut rows = vec![in heap; TypeRow::empty(); MOST_DECLARATIONS]?;
+    let mut types = vec![in heap; TypeRow::empty(); MOST_DECLARATIONS]?;
     let mut elements = vec![in heap; Element::empty(); MOST_ELEMENTS]?;
     let mut names = vec![in heap; 0u8; MOST_NAME_BYTES]?;
-    let mut table = Btf::new(
-        rows.as_mut_slice(),
+    let table = Btf::new(
+        types.as_mut_slice(),
         elements.as_mut_slice(),
         names.as_mut_slice(),
     );
-    tell(rt, &mut table, names)
+    tell(Recorder { rt, table, names })
 }
 
 fn main(rt: HostRuntime) -> anyhow::Result<()> {

@@ -6,9 +6,8 @@ use declare::{
     Array, Const, DataSec, DeclTag, Enum, Enum64, Float, Func, FuncProto, Fwd, Int, Ptr, Restrict,
     Struct, TypeTag, Typedef, Union, Var, Volatile,
 };
-use elements::{BtfEnum, BtfEnum64, BtfMember, BtfParam, DataSecEntry};
+use elements::DataSecEntry;
 use layout::Linkage;
-use table::Btf;
 
 // How many lines a meter counts.
 const LINES: u32 = 16;
@@ -19,12 +18,59 @@ const ARRAY_MAP: u32 = 2;
 // Tags the whole of what a DeclTag names.
 const WHOLE: i32 = -1;
 
+// The declarations that `declare_named` adds are made with the name 0, which it replaces.
+const UNNAMED: u32 = 0;
+
 #[derive(Clone, Copy)]
 pub struct Numbers {
     pub word: u32,
     pub long: u32,
     pub letter: u32,
     pub int: u32,
+}
+
+impl Numbers {
+    fn declare(recorder: &mut Recorder) -> Result<Numbers, Fault> {
+        let word = recorder.declare_named("u32", &Int::new(UNNAMED, 4, 0, 0))?;
+        let long = recorder.declare_named("u64", &Int::new(UNNAMED, 8, 0, 0))?;
+        let letter = recorder.declare_named("char", &Int::new(UNNAMED, 1, Int::CHAR, 0))?;
+        let int = recorder.declare_named("int", &Int::new(UNNAMED, 4, Int::SIGNED, 0))?;
+        Ok(Numbers {
+            word,
+            long,
+            letter,
+            int,
+        })
+    }
+
+    // What a line counts.
+    fn declare_struct(&self, recorder: &mut Recorder) -> Result<u32, Fault> {
+        let name = recorder.name("counters")?;
+        let members = [
+            recorder.member("packets", self.long, 0)?,
+            recorder.member("bytes", self.long, 64)?,
+            recorder.member("errors", self.long, 128)?,
+        ];
+        recorder.declare(&Struct::new(name, false, 24), &members)
+    }
+
+    // The key of a line: its number or its port, or both at once.
+    fn declare_key(&self, recorder: &mut Recorder) -> Result<u32, Fault> {
+        let name = recorder.name("line_key")?;
+        let members = [
+            recorder.member("whole", self.long, 0)?,
+            recorder.member("line", self.word, 0)?,
+            recorder.member("port", self.letter, 0)?,
+        ];
+        recorder.declare(&Union::new(name, false, 8), &members)
+    }
+
+    // A number as a map's declaration states it: a pointer to an array of so many ints.
+    fn state(&self, recorder: &mut Recorder, number: u32) -> Result<u32, Fault> {
+        let array = Array::new(UNNAMED, self.int, self.word, number);
+        let array = recorder.declare_alone(&array)?;
+        recorder.declare_alone(&Ptr::new(UNNAMED, array))
+    }
 }
 
 #[derive(Clone, Copy)]
@@ -37,12 +83,62 @@ pub struct Counters {
     pub restrict: u32,
 }
 
+impl Counters {
+    fn declare(recorder: &mut Recorder, numbers: &Numbers) -> Result<Counters, Fault> {
+        let counters = numbers.declare_struct(recorder)?;
+        let pointer = recorder.declare_alone(&Ptr::new(UNNAMED, counters))?;
+        let array = Array::new(UNNAMED, counters, numbers.word, LINES);
+        let lines = recorder.declare_alone(&array)?;
+        let alias = recorder.declare_named("counters_t", &Typedef::new(UNNAMED, counters))?;
+        let constant = recorder.declare_alone(&Const::new(alias))?;
+        let volatile = recorder.declare_alone(&Volatile::new(numbers.long))?;
+        let restrict = recorder.declare_alone(&Restrict::new(pointer))?;
+        Ok(Counters {
+            counters,
+            pointer,
+            lines,
+            constant,
+            volatile,
+            restrict,
+        })
+    }
+}
+
+// The verdicts on a packet, of which one is negative, and the marks of a line, of which one is past 32 bits.
 #[derive(Clone, Copy)]
 pub struct Choices {
     pub verdict: u32,
     pub marks: u32,
 }
 
+impl Choices {
+    fn declare(recorder: &mut Recorder) -> Result<Choices, Fault> {
+        let verdict = Choices::declare_verdict(recorder)?;
+        let marks = Choices::declare_marks(recorder)?;
+        Ok(Choices { verdict, marks })
+    }
+
+    fn declare_verdict(recorder: &mut Recorder) -> Result<u32, Fault> {
+        let name = recorder.name("verdict")?;
+        let verdicts = [
+            recorder.variant("VERDICT_DROP", u32::MAX)?,
+            recorder.variant("VERDICT_PASS", 0)?,
+            recorder.variant("VERDICT_COUNT", 1)?,
+        ];
+        recorder.declare(&Enum::new(name, true), &verdicts)
+    }
+
+    fn declare_marks(recorder: &mut Recorder) -> Result<u32, Fault> {
+        let name = recorder.name("line_marks")?;
+        let marks = [
+            recorder.variant64("LINE_UP", 1)?,
+            recorder.variant64("LINE_BILLED", 1 << 40)?,
+        ];
+        recorder.declare(&Enum64::new(name, false), &marks)
+    }
+}
+
+// The packet, which the kernel alone knows, and the key of a line.
 #[derive(Clone, Copy)]
 pub struct Packets {
     pub buffer: u32,
@@ -50,10 +146,60 @@ pub struct Packets {
     pub key: u32,
 }
 
+impl Packets {
+    fn declare(recorder: &mut Recorder, numbers: &Numbers) -> Result<Packets, Fault> {
+        let buffer = recorder.declare_named("__sk_buff", &Fwd::new(UNNAMED, false))?;
+        let pointer = recorder.declare_alone(&Ptr::new(UNNAMED, buffer))?;
+        let key = numbers.declare_key(recorder)?;
+        Ok(Packets {
+            buffer,
+            pointer,
+            key,
+        })
+    }
+}
+
 #[derive(Clone, Copy)]
 pub struct Maps {
     pub var: u32,
     pub section: u32,
+}
+
+impl Maps {
+    fn declare(
+        recorder: &mut Recorder,
+        numbers: &Numbers,
+        counters: &Counters,
+    ) -> Result<Maps, Fault> {
+        let map = Maps::declare_map(recorder, numbers, counters)?;
+        let var = recorder.declare_named("lines", &Var::new(UNNAMED, map, Linkage::Global))?;
+        let name = recorder.name(".maps")?;
+        let entry = DataSecEntry {
+            btf_type: var,
+            offset: 0,
+            size: 32,
+        };
+        let section = recorder.declare(&DataSec::new(name, 32), &[entry])?;
+        Ok(Maps { var, section })
+    }
+
+    // The map of the lines, which states what it is by the types of its members.
+    fn declare_map(
+        recorder: &mut Recorder,
+        numbers: &Numbers,
+        counters: &Counters,
+    ) -> Result<u32, Fault> {
+        let kind = numbers.state(recorder, ARRAY_MAP)?;
+        let most = numbers.state(recorder, LINES)?;
+        let word = recorder.declare_alone(&Ptr::new(UNNAMED, numbers.word))?;
+        let members = [
+            recorder.member("type", kind, 0)?,
+            recorder.member("max_entries", most, 64)?,
+            recorder.member("key", word, 128)?,
+            recorder.member("value", counters.pointer, 192)?,
+        ];
+        recorder.declare(&Struct::new(UNNAMED, false, 32), &members)
+    }
 }
 
 // The ids of what a meter declares.
@@ -67,213 +213,47 @@ pub struct Meter {
     pub func: u32,
 }
 
-// The declarations that `declare_named` adds are made with the name 0, which it replaces.
-const UNNAMED: u32 = 0;
-
-fn declare_numbers(recorder: &mut Recorder, table: &mut Btf) -> Result<Numbers, Fault> {
-    let word = recorder.declare_named(table, "u32", &Int::new(UNNAMED, 4, 0, 0))?;
-    let long = recorder.declare_named(table, "u64", &Int::new(UNNAMED, 8, 0, 0))?;
-    let letter = recorder.declare_named(table, "char", &Int::new(UNNAMED, 1, Int::CHAR, 0))?;
-    let int = recorder.declare_named(table, "int", &Int::new(UNNAMED, 4, Int::SIGNED, 0))?;
-    Ok(Numbers {
-        word,
-        long,
-        letter,
-        int,
-    })
-}
-
-fn member(name_offset: u32, btf_type: u32, offset: u32) -> BtfMember {
-    BtfMember {
-        name_offset,
-        btf_type,
-        offset,
-    }
-}
-
-// What a line counts.
-fn declare_struct(
-    recorder: &mut Recorder,
-    table: &mut Btf,
-    numbers: &Numbers,
-) -> Result<u32, Fault> {
-    let [name, packets, bytes, errors] = recorder.names(
-        table,
-        &["counters", "packets", "bytes", "errors"],
-    )?;
-    let members = [
-        member(packets, numbers.long, 0),
-        member(bytes, numbers.long, 64),
-        member(errors, numbers.long, 128),
-    ];
-    recorder.declare(table, &Struct::new(name, false, 24), &members)
-}
-
-fn declare_counters(
-    recorder: &mut Recorder,
-    table: &mut Btf,
-    numbers: &Numbers,
-) -> Result<Counters, Fault> {
-    let counters = declare_struct(recorder, table, numbers)?;
-    let pointer = recorder.declare_alone(table, &Ptr::new(UNNAMED, counters))?;
-    let array = Array::new(UNNAMED, counters, numbers.word, LINES);
-    let lines = recorder.declare_alone(table, &array)?;
-    let alias = recorder.declare_named(table, "counters_t", &Typedef::new(UNNAMED, counters))?;
-    let constant = recorder.declare_alone(table, &Const::new(alias))?;
-    let volatile = recorder.declare_alone(table, &Volatile::new(numbers.long))?;
-    let restrict = recorder.declare_alone(table, &Restrict::new(pointer))?;
-    Ok(Counters {
-        counters,
-        pointer,
-        lines,
-        constant,
-        volatile,
-        restrict,
-    })
-}
-
-fn variant(name_offset: u32, value: u32) -> BtfEnum {
-    BtfEnum { name_offset, value }
-}
-
-// The verdicts on a packet, of which one is negative, and the marks of a line, of which one is past 32 bits.
-fn declare_choices(recorder: &mut Recorder, table: &mut Btf) -> Result<Choices, Fault> {
-    let [name, drops, passes, counts] = recorder.names(
-        table,
-        &["verdict", "VERDICT_DROP", "VERDICT_PASS", "VERDICT_COUNT"],
-    )?;
-    let verdicts = [
-        variant(drops, u32::MAX),
-        variant(passes, 0),
-        variant(counts, 1),
-    ];
-    let verdict = recorder.declare(table, &Enum::new(name, true), &verdicts)?;
-    let [name, up, billed, _] = recorder.names(table, &["line_marks", "LINE_UP", "LINE_BILLED"])?;
-    let line_marks = [BtfEnum64::new(up, 1), BtfEnum64::new(billed, 1 << 40)];
-    let marks = recorder.declare(table, &Enum64::new(name, false), &line_marks)?;
-    Ok(Choices { verdict, marks })
-}
-
-// The key of a line: its number or its port, or both at once.
-fn declare_key(recorder: &mut Recorder, table: &mut Btf, numbers: &Numbers) -> Result<u32, Fault> {
-    let [name, whole, line, port] = recorder.names(table, &["line_key", "whole", "line", "port"])?;
-    let members = [
-        member(whole, numbers.long, 0),
-        member(line, numbers.word, 0),
-        member(port, numbers.letter, 0),
-    ];
-    recorder.declare(table, &Union::new(name, false, 8), &members)
-}
-
-// The packet, which the kernel alone knows, the key of a line, its rate, and a pointer that is tagged.
-fn declare_packets(
-    recorder: &mut Recorder,
-    table: &mut Btf,
-    numbers: &Numbers,
-    counters: u32,
-) -> Result<Packets, Fault> {
-    let buffer = recorder.declare_named(table, "__sk_buff", &Fwd::new(UNNAMED, false))?;
-    let pointer = recorder.declare_alone(table, &Ptr::new(UNNAMED, buffer))?;
-    let key = declare_key(recorder, table, numbers)?;
-    recorder.declare_named(table, "double", &Float::new(UNNAMED, 8))?;
-    let tagged = recorder.declare_named(table, "percpu", &TypeTag::new(UNNAMED, counters))?;
-    recorder.declare_alone(table, &Ptr::new(UNNAMED, tagged))?;
-    Ok(Packets {
-        buffer,
-        pointer,
-        key,
-    })
-}
-
-// A number as a map's declaration states it: a pointer to an array of so many ints.
-fn stated(
-    recorder: &mut Recorder,
-    table: &mut Btf,
-    numbers: &Numbers,
-    number: u32,
-) -> Result<u32, Fault> {
-    let array = Array::new(UNNAMED, numbers.int, numbers.word, number);
-    let array = recorder.declare_alone(table, &array)?;
-    recorder.declare_alone(table, &Ptr::new(UNNAMED, array))
-}
-
-// The map of the lines, which states what it is by the types of its members.
-fn declare_map(
-    recorder: &mut Recorder,
-    table: &mut Btf,
-    numbers: &Numbers,
-    counters: &Counters,
-) -> Result<u32, Fault> {
-    let kind = stated(recorder, table, numbers, ARRAY_MAP)?;
-    let most = stated(recorder, table, numbers, LINES)?;
-    let word = recorder.declare_alone(table, &Ptr::new(UNNAMED, numbers.word))?;
-    let [type_name, most_name, key_name, value_name] = recorder.names(
-        table,
-        &["type", "max_entries", "key", "value"],
-    )?;
-    let members = [
-        member(type_name, kind, 0),
-        member(most_name, most, 64),
-        member(key_name, word, 128),
-        member(value_name, counters.pointer, 192),
-    ];
-    recorder.declare(table, &Struct::new(UNNAMED, false, 32), &members)
-}
-
-fn declare_maps(
-    recorder: &mut Recorder,
-    table: &mut Btf,
-    numbers: &Numbers,
-    counters: &Counters,
-) -> Result<Maps, Fault> {
-    let map = declare_map(recorder, table, numbers, counters)?;
-    let var = recorder.declare_named(table, "lines", &Var::new(UNNAMED, map, Linkage::Global))?;
-    let name = recorder.name(table, ".maps")?;
-    let entry = DataSecEntry {
-        btf_type: var,
-        offset: 0,
-        size: 32,
-    };
-    let section = recorder.declare(table, &DataSec::new(name, 32), &[entry])?;
-    Ok(Maps { var, section })
-}
-
-fn param(name_offset: u32, btf_type: u32) -> BtfParam {
-    BtfParam {
-        name_offset,
-        btf_type,
-    }
+// The rate of a line, and a pointer to its counters that is tagged.
+fn declare_rate(recorder: &mut Recorder, counters: &Counters) -> Result<(), Fault> {
+    recorder.declare_named("double", &Float::new(UNNAMED, 8))?;
+    let tagged = recorder.declare_named("percpu", &TypeTag::new(UNNAMED, counters.counters))?;
+    recorder.declare_alone(&Ptr::new(UNNAMED, tagged))?;
+    Ok(())
 }
 
 // The function that counts a packet, tagged as billed.
 fn declare_func(
     recorder: &mut Recorder,
-    table: &mut Btf,
     numbers: &Numbers,
     packets: &Packets,
 ) -> Result<u32, Fault> {
-    let [packet, number, _, _] = recorder.names(table, &["packet", "number"])?;
-    let params = [param(packet, packets.pointer), param(number, numbers.word)];
-    let proto = recorder.declare(table, &FuncProto::new(numbers.int), &params)?;
+    let params = [
+        recorder.param("packet", packets.pointer)?,
+        recorder.param("number", numbers.word)?,
+    ];
+    let proto = recorder.declare(&FuncProto::new(numbers.int), &params)?;
     let counting = Func::new(UNNAMED, proto, Linkage::Global);
-    let func = recorder.declare_named(table, "count_packet", &counting)?;
-    recorder.declare_named(table, "billed", &DeclTag::new(UNNAMED, func, WHOLE))?;
+    let func = recorder.declare_named("count_packet", &counting)?;
+    recorder.declare_named("billed", &DeclTag::new(UNNAMED, func, WHOLE))?;
     Ok(func)
 }
 
-pub fn declare_all(recorder: &mut Recorder, table: &mut Btf) -> Result<Meter, Fault> {
-    let numbers = declare_numbers(recorder, table)?;
-    let counters = declare_counters(recorder, table, &numbers)?;
-    let choices = declare_choices(recorder, table)?;
-    let packets = declare_packets(recorder, table, &numbers, counters.counters)?;
-    let maps = declare_maps(recorder, table, &numbers, &counters)?;
-    let func = declare_func(recorder, table, &numbers, &packets)?;
-    Ok(Meter {
-        numbers,
-        counters,
-        choices,
-        packets,
-        maps,
-        func,
-    })
+impl Meter {
+    pub fn declare(recorder: &mut Recorder) -> Result<Meter, Fault> {
+        let numbers = Numbers::declare(recorder)?;
+        let counters = Counters::declare(recorder, &numbers)?;
+        let choices = Choices::declare(recorder)?;
+        let packets = Packets::declare(recorder, &numbers)?;
+        declare_rate(recorder, &counters)?;
+        let maps = Maps::declare(recorder, &numbers, &counters)?;
+        let func = declare_func(recorder, &numbers, &packets)?;
+        Ok(Meter {
+            numbers,
+            counters,
+            choices,
+            packets,
+            maps,
+            func,
+        })
+    }
 }

@@ -1,70 +1,81 @@
-// Adds names and declarations to a table, and prints each.
+// Adds names, elements' names and declarations to a table, and prints each.
 use crate::fault::Fault;
 use crate::shown::Heading;
-use elements::{BtfMember, ElementType};
+use elements::{BtfEnum, BtfEnum64, BtfMember, BtfParam, ElementType};
 use layout::Declaration;
 use table::Btf;
 
 #[derive(Drop)]
-pub struct Recorder<'r> {
+pub struct Recorder<'r, 't> {
     pub rt: &'r HostRuntime,
+    pub table: Btf<'t>,
     // the string area of the table
     pub names: Vec<u8>,
 }
 
-impl Recorder<'_> {
+impl Recorder<'_, '_> {
     // Adds a name, and answers where it stands.
-    pub fn name(&mut self, table: &mut Btf, text: &str) -> Result<u32, Fault> {
-        let at = table.add_string(self.names.as_mut_slice(), text.as_bytes())?;
+    pub fn name(&mut self, text: &str) -> Result<u32, Fault> {
+        let at = self
+            .table
+            .add_string(self.names.as_mut_slice(), text.as_bytes())?;
         println!(self.rt; "name {at} {text}")?;
         Ok(at)
     }
 
-    // Adds at most four names one after the other, and answers where each stands.
-    pub fn names(&mut self, table: &mut Btf, texts: &[&str]) -> Result<[u32; 4], Fault> {
-        let mut offsets = [0; 4];
-        for (at, text) in offsets.iter_mut().zip(texts) {
-            *at = self.name(table, text)?;
-        }
-        Ok(offsets)
+    // A value of an enum, a name of 64 bits, a parameter and a member, each with its name added.
+    pub fn variant(&mut self, text: &str, value: u32) -> Result<BtfEnum, Fault> {
+        let name_offset = self.name(text)?;
+        Ok(BtfEnum { name_offset, value })
+    }
+
+    pub fn variant64(&mut self, text: &str, value: u64) -> Result<BtfEnum64, Fault> {
+        Ok(BtfEnum64::new(self.name(text)?, value))
+    }
+
+    pub fn param(&mut self, text: &str, btf_type: u32) -> Result<BtfParam, Fault> {
+        let name_offset = self.name(text)?;
+        Ok(BtfParam {
+            name_offset,
+            btf_type,
+        })
+    }
+
+    pub fn member(&mut self, text: &str, btf_type: u32, offset: u32) -> Result<BtfMember, Fault> {
+        let name_offset = self.name(text)?;
+        Ok(BtfMember {
+            name_offset,
+            btf_type,
+            offset,
+        })
     }
 
     // Adds a declaration with its elements, and answers its id.
     pub fn declare<E: ElementType>(
         &mut self,
-        table: &mut Btf,
         declaration: &Declaration,
         elements: &[E],
     ) -> Result<u32, Fault> {
-        let id = table.add_type(self.names.as_slice(), declaration, elements)?;
-        let head = table.type_by_id(self.names.as_slice(), id)?;
-        let name = table.type_name(self.names.as_slice(), id)?;
+        let names = self.names.as_slice();
+        let id = self.table.add_type(names, declaration, elements)?;
+        let head = self.table.type_by_id(names, id)?;
+        let name = self.table.type_name(names, id)?;
         println!(self.rt; "id {id} {}", Heading { head, name })?;
         Ok(id)
     }
 
     // Adds a declaration that has no elements.
-    pub fn declare_alone(
-        &mut self,
-        table: &mut Btf,
-        declaration: &Declaration,
-    ) -> Result<u32, Fault> {
-        let none: [BtfMember; 0] = [];
-        self.declare(table, declaration, &none)
+    pub fn declare_alone(&mut self, declaration: &Declaration) -> Result<u32, Fault> {
+        self.declare::<BtfMember>(declaration, &[])
     }
 
     // Adds a name, and then a declaration without elements under that name.
-    pub fn declare_named(
-        &mut self,
-        table: &mut Btf,
-        text: &str,
-        declaration: &Declaration,
-    ) -> Result<u32, Fault> {
-        let name_offset = self.name(table, text)?;
+    pub fn declare_named(&mut self, text: &str, declaration: &Declaration) -> Result<u32, Fault> {
+        let name_offset = self.name(text)?;
         let named = Declaration {
             name_offset,
             ..*declaration
         };
-        self.declare_alone(table, &named)
+        self.declare_alone(&named)
     }
 }

@@ -1,4 +1,5 @@
 // Bytes, kinds and declarations as they are printed.
+use elements::BtfElement;
 use layout::{BtfKind, BtfType};
 use std::fmt;
 
@@ -84,17 +85,15 @@ pub struct Heading<'a> {
 
 // What the third word and an Array's words say.
 fn show_words<W: fmt::Write>(head: &BtfType, f: &mut fmt::Formatter<W>) -> fmt::Result {
-    if let Some(size) = head.size() {
-        return write!(f, " {size} bytes");
+    match (head.size(), head.btf_type(), head.kind()) {
+        (Some(size), _, _) => write!(f, " {size} bytes"),
+        (_, Some(id), _) => write!(f, " of id {id}"),
+        (_, _, BtfKind::Array) => {
+            let [element, _, len] = head.extra;
+            write!(f, " {len} times id {element}")
+        }
+        _ => Ok(()),
     }
-    if let Some(id) = head.btf_type() {
-        return write!(f, " of id {id}");
-    }
-    if let BtfKind::Array = head.kind() {
-        let [element, _, len] = head.extra;
-        return write!(f, " {len} times id {element}");
-    }
-    Ok(())
 }
 
 // What the flag and the count in the info word say.
@@ -117,5 +116,33 @@ impl fmt::Display for Heading<'_> {
         }
         show_words(&self.head, f)?;
         show_info(&self.head, f)
+    }
+}
+
+// An element, whose name is printed as the offset where it stands.
+#[derive(Clone, Copy)]
+pub struct ShownElement(pub BtfElement);
+
+impl fmt::Display for ShownElement {
+    fn fmt<W: fmt::Write>(&self, f: &mut fmt::Formatter<W>) -> fmt::Result {
+        match self.0 {
+            BtfElement::Variant(e) => write!(f, "name {} value {}", e.name_offset, e.value),
+            BtfElement::Param(e) => write!(f, "name {} of id {}", e.name_offset, e.btf_type),
+            BtfElement::Variant64(e) => write!(
+                f,
+                "name {} value low {} high {}",
+                e.name_offset, e.value_low, e.value_high
+            ),
+            BtfElement::Member(e) => write!(
+                f,
+                "name {} of id {} at bit {}",
+                e.name_offset, e.btf_type, e.offset
+            ),
+            BtfElement::Entry(e) => write!(
+                f,
+                "id {} at byte {}, {} bytes",
+                e.btf_type, e.offset, e.size
+            ),
+        }
     }
 }

@@ -1,10 +1,9 @@
 // Which gateway of a sheet gets which file. Gateways whose files have the same bytes are billed alike.
 use crate::fault::Fault;
-use crate::files::Files;
+use crate::files::{Endian, Files};
 use crate::given::Given;
-use crate::sheet::{Malformed, Row, Sheet, is_passed_over};
+use crate::sheet::{Malformed, Row, Sheet, is_passed_over, without_end};
 use crate::shown::Shown;
-use std::alloc::Global;
 use std::collections::BTreeMap;
 use std::io;
 
@@ -16,8 +15,9 @@ struct Gateway {
 }
 
 #[derive(Drop)]
-pub struct Swaps {
-    heap: Global,
+struct Swaps<'s> {
+    rt: &'s HostRuntime,
+    files: &'s Files,
     // the line of each name
     lines: BTreeMap<String, usize>,
     given: Given,
@@ -25,10 +25,12 @@ pub struct Swaps {
     malformed: usize,
 }
 
-impl Swaps {
-    fn new(heap: Global) -> Swaps {
+impl<'s> Swaps<'s> {
+    fn new(rt: &'s HostRuntime, files: &'s Files) -> Swaps<'s> {
+        let heap = rt.alloc();
         Swaps {
-            heap,
+            rt,
+            files,
             lines: BTreeMap::new(heap),
             given: Given::new(heap),
             gateways: Vec::new(heap),
@@ -36,93 +38,76 @@ impl Swaps {
         }
     }
 
-    // Keeps the line of a name, and answers the earlier one where the name has stood in a row. That
-    // row may be malformed in its byte order.
-    fn note_name(&mut self, name: &str, line: usize) -> Result<Option<usize>, Fault> {
-        if let Some(earlier) = self.lines.get(name) {
-            return Ok(Some(*earlier));
-        }
-        let key = String::from_str(self.heap, name)?;
-        self.lines.insert(key, line)?;
-        Ok(None)
-    }
-
-    fn refuse(&mut self, rt: &HostRuntime, line: usize, fault: Malformed) -> Result<(), Fault> {
+    fn refuse(&mut self, line: usize, malformed: Malformed) -> io::Result<()> {
         self.malformed = self.malformed.saturating_add(1);
-        println!(rt; "line {line}: malformed, {fault}")?;
-        Ok(())
+        println!(self.rt; "line {line}: malformed, {malformed}")
     }
 
-    fn take_row(
-        &mut self,
-        rt: &HostRuntime,
-        files: &Files,
-        line: usize,
-        text: &[u8],
-    ) -> Result<(), Fault> {
-        let row = match Row::cut(text) {
-            Ok(row) => row,
-            Err(fault) => return self.refuse(rt, line, fault),
-        };
-        if let Some(earlier) = self.note_name(row.name, line)? {
-            return self.refuse(rt, line, Malformed::RepeatedName { line: earlier });
+    // The row of a line, under a name that stood in no earlier row.
+    fn read_row<'t>(&self, text: &'t [u8]) -> Result<Row<'t>, Malformed> {
+        let row = Row::try_from(text)?;
+        match self.lines.get(row.name) {
+            Some(line) => Err(Malformed::RepeatedName { line: *line }),
+            None => Ok(row),
         }
-        let endian = match row.endian() {
-            Ok(endian) => endian,
-            Err(fault) => return self.refuse(rt, line, fault),
-        };
-        let file = self.given.number(self.heap, files.of(endian))?;
-        print_row(rt, line, &row, file)?;
-        self.note_gateway(row.name, file)
     }
 
-    fn note_gateway(&mut self, name: &str, file: usize) -> Result<(), Fault> {
-        let name = String::from_str(self.heap, name)?;
+    fn take_line(&mut self, line: usize, text: &[u8]) -> Result<(), Fault> {
+        match self.read_row(text) {
+            Ok(row) => self.take_row(line, &row),
+            Err(malformed) => Ok(self.refuse(line, malformed)?),
+        }
+    }
+
+    // Keeps the line of the row's name, also where its byte order is malformed.
+    fn take_row(&mut self, line: usize, row: &Row) -> Result<(), Fault> {
+        let name = String::from_str(self.rt.alloc(), row.name)?;
+        self.lines.insert(name, line)?;
+        match Endian::try_from(row.order) {
+            Ok(endian) => self.give_file(line, row, endian),
+            Err(malformed) => Ok(self.refuse(line, malformed)?),
+        }
+    }
+
+    fn give_file(&mut self, line: usize, row: &Row, endian: Endian) -> Result<(), Fault> {
+        let heap = self.rt.alloc();
+        let file = self.given.number(heap, self.files.of(endian))?;
+        print_row(self.rt, line, row, file)?;
+        let name = String::from_str(heap, row.name)?;
         self.gateways.push(Gateway { name, file })?;
         Ok(())
     }
 
-    // Takes the rows of a sheet, and answers how many lines it has.
-    fn take_rows(
-        &mut self,
-        rt: &HostRuntime,
-        files: &Files,
-        sheet: &Sheet,
-    ) -> Result<usize, Fault> {
-        let mut line = 0usize;
-        for text in sheet.lines() {
-            line = line.saturating_add(1);
+    fn take_lines(&mut self, sheet: &Sheet) -> Result<(), Fault> {
+        for (line, text) in (1usize..).zip(sheet.lines()) {
+            let text = without_end(text);
             if !is_passed_over(text) {
-                self.take_row(rt, files, line, text)?;
-            }
-        }
-        Ok(line)
-    }
-
-    fn print_gateways(&self, rt: &HostRuntime, file: usize) -> io::Result<()> {
-        for gateway in self.gateways.iter() {
-            if gateway.file == file {
-                println!(rt; "  {}", gateway.name)?;
+                self.take_line(line, text)?;
             }
         }
         Ok(())
     }
 
-    fn print_files(&self, rt: &HostRuntime) -> io::Result<()> {
-        let mut number = 0usize;
-        for bytes in self.given.files().iter() {
-            number = number.saturating_add(1);
-            println!(rt; "file {number}, {} bytes, billed alike:", bytes.len())?;
-            self.print_gateways(rt, number)?;
+    fn print_gateways(&self, file: usize) -> io::Result<()> {
+        for gateway in self.gateways.iter().filter(|gateway| gateway.file == file) {
+            println!(self.rt; "  {}", gateway.name)?;
         }
         Ok(())
     }
 
-    fn print_summary(&self, rt: &HostRuntime) -> io::Result<()> {
+    fn print_files(&self) -> io::Result<()> {
+        for (number, bytes) in (1usize..).zip(self.given.files()) {
+            println!(self.rt; "file {number}, {} bytes, billed alike:", bytes.len())?;
+            self.print_gateways(number)?;
+        }
+        Ok(())
+    }
+
+    fn print_summary(&self) -> io::Result<()> {
         let gateways = self.gateways.len();
         let files = self.given.files().len();
         let malformed = self.malformed;
-        println!(rt; "{gateways} gateways, {files} files, {malformed} malformed rows")
+        println!(self.rt; "{gateways} gateways, {files} files, {malformed} malformed rows")
     }
 }
 
@@ -138,25 +123,16 @@ fn print_row(rt: &HostRuntime, line: usize, row: &Row, file: usize) -> io::Resul
     }
 }
 
-// Says of each row of a sheet which file its gateway gets, and then who shares each file.
-fn serve_sheet(
-    rt: &HostRuntime,
-    files: &Files,
-    sheet: &Sheet,
-    swaps: &mut Swaps,
-) -> Result<(), Fault> {
-    let line = swaps.take_rows(rt, files, sheet)?;
-    if sheet.is_cut {
-        println!(rt; "the sheet is too long: nothing is read past line {line}")?;
-    }
-    swaps.print_files(rt)?;
-    swaps.print_summary(rt)?;
-    Ok(())
-}
-
-// Reads the sheet and serves it.
+// Reads the sheet, says of each row which file its gateway gets, and then who shares each file.
 pub fn serve(rt: &HostRuntime, files: &Files) -> Result<(), Fault> {
     let sheet = Sheet::read(rt)?;
-    let mut swaps = Swaps::new(rt.alloc());
-    serve_sheet(rt, files, &sheet, &mut swaps)
+    let mut swaps = Swaps::new(rt, files);
+    swaps.take_lines(&sheet)?;
+    if sheet.is_cut {
+        let lines = sheet.lines().count();
+        println!(rt; "the sheet is too long: nothing is read past line {lines}")?;
+    }
+    swaps.print_files()?;
+    swaps.print_summary()?;
+    Ok(())
 }

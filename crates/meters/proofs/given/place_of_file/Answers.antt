@@ -1,30 +1,19 @@
--- what the test says of the file at the index
-use Rattle.std.proofs.Common.{◌≡◌, ℕ, ◌<◌, vec_items, sym, ◌∙◌, arith, below_more}
-use Rattle.std.proofs.lemmas.List.{length-map}
-use Rattle.meters.proofs.Contents.{content}
+-- the first place where a file has the bytes, or none
+use Rattle.std.proofs.Common.{rules, tests, ◌≡◌, ◌≢◌, ◌<◌, ℕ, List, [], length, Option, None, Some, vec_items, arith}
+use Rattle.std.specs.Option.{MatchOption}
+use Rattle.std.specs.List.{AllWithin, HoldsAt}
+use Rattle.std.proofs.lemmas.Iterator.{IsFirst-from_position, YieldsList-from_slice, YieldsList-from_map_by}
+use Rattle.meters.specs.Numbering.{Absent, Stands}
 use Rattle.meters.proofs.given.place_of_file.Goals as goal
 
-pub returns-then-same_file : goal.returns-then-same_file
-returns-then-same_file c =
-    let within = c.loop-i-test.true in
-    let long = length-map c.args.files.now vec_items in
-    let held = content vec_items c.args.files.now c.loop-i.i c.index-files-i.result within c.index-files-i.is in
-    let same = c.same_file.ensures.0 c.if-same_file.true in
-    (omega arith, held ∙ (sym c.as_slice.ensures.value ∙ same))
-
-pub loop-i-preserved : goal.loop-i-preserved
-loop-i-preserved c =
-    below_more _ _ c.loop-i.invariant
-    (λ e.
-    let held = content vec_items c.args.files.now c.loop-i.i c.index-files-i.result c.loop-i-test.true c.index-files-i.is in
-    let yes = c.same_file.ensures.1 (c.as_slice.ensures.value ∙ (sym held ∙ e)) in
-    let no = c.if-same_file.false in
-    let never : ◌≡◌ {A = ℕ} 0 1 = cc in
-    omega arith)
+placed : (files : List (List ℕ)) (bytes : List ℕ) (r : Option ℕ)
+  → MatchOption r (AllWithin (λ file. file ≢ bytes) files 0 (length files)) (λ i. (i < length files) × HoldsAt (λ file. file ≡ bytes) files i × AllWithin (λ file. file ≢ bytes) files 0 i)
+  → MatchOption r (Absent files bytes) (λ i. Stands files i bytes)
+placed files bytes None none = λ k below. none k [] (omega arith) below
+placed files bytes (Some i) found = (found.0, found.1 [])
 
 pub returns : goal.returns
-returns c k h e =
-    let long = length-map c.args.files.now vec_items in
-    let end = c.loop-i-test.false in
-    let below : k < c.loop-i.i = omega arith in
-    c.loop-i.invariant k below e
+returns c =
+    let bytes = c.args.bytes.now in
+    let files = YieldsList-from_map_by _ (λ file. file.now) vec_items (YieldsList-from_slice c.args.files.now cc) c.map.ensures.closure (λ x r q k. search (rules, tests)) in
+    placed _ bytes _ (IsFirst-from_position _ _ _ (λ file. file ≡ bytes) (λ file. file ≢ bytes) c.position.ensures.ran files (λ x q k. search (rules, tests)) (λ x q k. search (rules, tests)))
