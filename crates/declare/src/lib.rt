@@ -9,17 +9,17 @@ ghost use Rattle.layout.specs.declared.kind.BtfKind.{BtfKind as of};
 
 use layout::{BtfKind, Declaration, Linkage};
 
-// A declaration without flag and linkage.
-fn plain(kind: BtfKind, name_offset: u32, size_or_type: u32, extra: [u32; 3]) -> Declaration
-    ensures { result ≡ declared name_offset kind false 0 size_or_type extra }
+// A declaration without flag, linkage and extra words.
+fn plain(kind: BtfKind, name_offset: u32, size_or_type: u32) -> Declaration
+    ensures { result ≡ declared name_offset kind false 0 size_or_type (0 ∷ 0 ∷ 0 ∷ []) }
 {
     Declaration {
         name_offset,
-        kind: kind.number(),
+        kind: kind.into(),
         flag: false,
         linkage: 0,
         size_or_type,
-        extra,
+        extra: [0, 0, 0],
     }
 }
 
@@ -28,12 +28,8 @@ fn flagged(kind: BtfKind, name_offset: u32, flag: bool, size: u32) -> Declaratio
     ensures { result ≡ declared name_offset kind flag 0 size (0 ∷ 0 ∷ 0 ∷ []) }
 {
     Declaration {
-        name_offset,
-        kind: kind.number(),
         flag,
-        linkage: 0,
-        size_or_type: size,
-        extra: [0, 0, 0],
+        ..plain(kind, name_offset, size)
     }
 }
 
@@ -42,12 +38,8 @@ fn linked(kind: BtfKind, name_offset: u32, btf_type: u32, linkage: Linkage) -> D
     ensures { result ≡ declared name_offset kind false (linkage_number linkage) btf_type (0 ∷ 0 ∷ 0 ∷ []) }
 {
     Declaration {
-        name_offset,
-        kind: kind.number(),
-        flag: false,
-        linkage: linkage.number(),
-        size_or_type: btf_type,
-        extra: [0, 0, 0],
+        linkage: linkage.into(),
+        ..plain(kind, name_offset, btf_type)
     }
 }
 
@@ -66,7 +58,10 @@ impl Int {
     {
         // the width in bits, size × 8, keeps its low eight bits
         let data = ((encoding & 0x0f) << 24) | ((offset & 0xff) << 16) | ((size & 0x1f) << 3);
-        plain(BtfKind::Int, name_offset, size, [data, 0, 0])
+        Declaration {
+            extra: [data, 0, 0],
+            ..plain(BtfKind::Int, name_offset, size)
+        }
     }
 }
 
@@ -76,7 +71,7 @@ impl Ptr {
     pub fn new(name_offset: u32, btf_type: u32) -> Declaration
         ensures { result ≡ declared name_offset of.Ptr false 0 btf_type (0 ∷ 0 ∷ 0 ∷ []) }
     {
-        plain(BtfKind::Ptr, name_offset, btf_type, [0, 0, 0])
+        plain(BtfKind::Ptr, name_offset, btf_type)
     }
 }
 
@@ -86,12 +81,10 @@ impl Array {
     pub fn new(name_offset: u32, element_type: u32, index_type: u32, len: u32) -> Declaration
         ensures { result ≡ declared name_offset of.Array false 0 0 (element_type ∷ index_type ∷ len ∷ []) }
     {
-        plain(
-            BtfKind::Array,
-            name_offset,
-            0,
-            [element_type, index_type, len],
-        )
+        Declaration {
+            extra: [element_type, index_type, len],
+            ..plain(BtfKind::Array, name_offset, 0)
+        }
     }
 }
 
@@ -152,7 +145,7 @@ impl Typedef {
     pub fn new(name_offset: u32, btf_type: u32) -> Declaration
         ensures { result ≡ declared name_offset of.Typedef false 0 btf_type (0 ∷ 0 ∷ 0 ∷ []) }
     {
-        plain(BtfKind::Typedef, name_offset, btf_type, [0, 0, 0])
+        plain(BtfKind::Typedef, name_offset, btf_type)
     }
 }
 
@@ -162,7 +155,7 @@ impl Volatile {
     pub fn new(btf_type: u32) -> Declaration
         ensures { result ≡ declared 0 of.Volatile false 0 btf_type (0 ∷ 0 ∷ 0 ∷ []) }
     {
-        plain(BtfKind::Volatile, 0, btf_type, [0, 0, 0])
+        plain(BtfKind::Volatile, 0, btf_type)
     }
 }
 
@@ -172,7 +165,7 @@ impl Const {
     pub fn new(btf_type: u32) -> Declaration
         ensures { result ≡ declared 0 of.Const false 0 btf_type (0 ∷ 0 ∷ 0 ∷ []) }
     {
-        plain(BtfKind::Const, 0, btf_type, [0, 0, 0])
+        plain(BtfKind::Const, 0, btf_type)
     }
 }
 
@@ -182,7 +175,7 @@ impl Restrict {
     pub fn new(btf_type: u32) -> Declaration
         ensures { result ≡ declared 0 of.Restrict false 0 btf_type (0 ∷ 0 ∷ 0 ∷ []) }
     {
-        plain(BtfKind::Restrict, 0, btf_type, [0, 0, 0])
+        plain(BtfKind::Restrict, 0, btf_type)
     }
 }
 
@@ -202,7 +195,7 @@ impl FuncProto {
     pub fn new(return_type: u32) -> Declaration
         ensures { result ≡ declared 0 of.FuncProto false 0 return_type (0 ∷ 0 ∷ 0 ∷ []) }
     {
-        plain(BtfKind::FuncProto, 0, return_type, [0, 0, 0])
+        plain(BtfKind::FuncProto, 0, return_type)
     }
 }
 
@@ -222,7 +215,7 @@ impl DataSec {
     pub fn new(name_offset: u32, size: u32) -> Declaration
         ensures { result ≡ declared name_offset of.DataSec false 0 size (0 ∷ 0 ∷ 0 ∷ []) }
     {
-        plain(BtfKind::DataSec, name_offset, size, [0, 0, 0])
+        plain(BtfKind::DataSec, name_offset, size)
     }
 }
 
@@ -232,7 +225,7 @@ impl Float {
     pub fn new(name_offset: u32, size: u32) -> Declaration
         ensures { result ≡ declared name_offset of.Float false 0 size (0 ∷ 0 ∷ 0 ∷ []) }
     {
-        plain(BtfKind::Float, name_offset, size, [0, 0, 0])
+        plain(BtfKind::Float, name_offset, size)
     }
 }
 
@@ -243,12 +236,10 @@ impl DeclTag {
     pub fn new(name_offset: u32, btf_type: u32, component: i32) -> Declaration
         ensures { result ≡ declared name_offset of.DeclTag false 0 btf_type (signed_word component ∷ 0 ∷ 0 ∷ []) }
     {
-        plain(
-            BtfKind::DeclTag,
-            name_offset,
-            btf_type,
-            [word_of(component), 0, 0],
-        )
+        Declaration {
+            extra: [component.cast_unsigned(), 0, 0],
+            ..plain(BtfKind::DeclTag, name_offset, btf_type)
+        }
     }
 }
 
@@ -258,17 +249,6 @@ impl TypeTag {
     pub fn new(name_offset: u32, btf_type: u32) -> Declaration
         ensures { result ≡ declared name_offset of.TypeTag false 0 btf_type (0 ∷ 0 ∷ 0 ∷ []) }
     {
-        plain(BtfKind::TypeTag, name_offset, btf_type, [0, 0, 0])
-    }
-}
-
-// The word that stands for a signed number.
-fn word_of(n: i32) -> u32
-    ensures { result ≡ signed_word n }
-{
-    if n < 0 {
-        u32::MAX - (-(n + 1)) as u32
-    } else {
-        n as u32
+        plain(BtfKind::TypeTag, name_offset, btf_type)
     }
 }

@@ -12,7 +12,7 @@ ghost use Rattle.std.proofs.Common.{rules};
 use layout::BtfKind;
 
 // An element as the table keeps it, its words in order; places past its last word hold 0.
-#[derive(Clone, Copy)]
+#[derive(Clone, Copy, Debug, PartialEq, Eq)]
 pub struct Element {
     words: [u32; 3],
 }
@@ -42,7 +42,7 @@ pub trait ElementType {
     ghost suits: { (k : kind_type) → serving k ≡ true → element_words k ≡ width };
 }
 
-#[derive(Clone, Copy)]
+#[derive(Clone, Copy, Debug, PartialEq, Eq)]
 pub struct BtfEnum {
     pub name_offset: u32,
     pub value: u32,
@@ -64,10 +64,7 @@ impl ElementType for BtfEnum {
     ghost suits = { Prim.search rules };
 
     fn serves(kind: BtfKind) -> bool {
-        match kind {
-            BtfKind::Enum => true,
-            _ => false,
-        }
+        matches!(kind, BtfKind::Enum)
     }
 
     fn pack(&self) -> Element {
@@ -77,7 +74,7 @@ impl ElementType for BtfEnum {
     }
 }
 
-#[derive(Clone, Copy)]
+#[derive(Clone, Copy, Debug, PartialEq, Eq)]
 pub struct BtfParam {
     pub name_offset: u32,
     pub btf_type: u32,
@@ -99,10 +96,7 @@ impl ElementType for BtfParam {
     ghost suits = { Prim.search rules };
 
     fn serves(kind: BtfKind) -> bool {
-        match kind {
-            BtfKind::FuncProto => true,
-            _ => false,
-        }
+        matches!(kind, BtfKind::FuncProto)
     }
 
     fn pack(&self) -> Element {
@@ -112,7 +106,7 @@ impl ElementType for BtfParam {
     }
 }
 
-#[derive(Clone, Copy)]
+#[derive(Clone, Copy, Debug, PartialEq, Eq)]
 pub struct BtfEnum64 {
     pub name_offset: u32,
     pub value_low: u32,
@@ -147,10 +141,7 @@ impl ElementType for BtfEnum64 {
     ghost suits = { Prim.search rules };
 
     fn serves(kind: BtfKind) -> bool {
-        match kind {
-            BtfKind::Enum64 => true,
-            _ => false,
-        }
+        matches!(kind, BtfKind::Enum64)
     }
 
     fn pack(&self) -> Element {
@@ -161,7 +152,7 @@ impl ElementType for BtfEnum64 {
 }
 
 // The offset is in bits; in a flagged Struct or Union its top eight bits are a bitfield's width.
-#[derive(Clone, Copy)]
+#[derive(Clone, Copy, Debug, PartialEq, Eq)]
 pub struct BtfMember {
     pub name_offset: u32,
     pub btf_type: u32,
@@ -184,10 +175,7 @@ impl ElementType for BtfMember {
     ghost suits = { Prim.search rules };
 
     fn serves(kind: BtfKind) -> bool {
-        match kind {
-            BtfKind::Struct | BtfKind::Union => true,
-            _ => false,
-        }
+        matches!(kind, BtfKind::Struct | BtfKind::Union)
     }
 
     fn pack(&self) -> Element {
@@ -197,7 +185,7 @@ impl ElementType for BtfMember {
     }
 }
 
-#[derive(Clone, Copy)]
+#[derive(Clone, Copy, Debug, PartialEq, Eq)]
 pub struct DataSecEntry {
     pub btf_type: u32,
     pub offset: u32,
@@ -220,10 +208,7 @@ impl ElementType for DataSecEntry {
     ghost suits = { Prim.search rules };
 
     fn serves(kind: BtfKind) -> bool {
-        match kind {
-            BtfKind::DataSec => true,
-            _ => false,
-        }
+        matches!(kind, BtfKind::DataSec)
     }
 
     fn pack(&self) -> Element {
@@ -234,7 +219,7 @@ impl ElementType for DataSecEntry {
 }
 
 // An element of any declaration.
-#[derive(Clone, Copy)]
+#[derive(Clone, Copy, Debug, PartialEq, Eq)]
 pub enum BtfElement {
     Variant(BtfEnum),
     Param(BtfParam),

@@ -6,7 +6,7 @@ ghost use Rattle.features.specs.declared.BtfFeature.{BtfFeature};
 ghost use Rattle.features.specs.Features.{number_of, same, bit_of, with_bit, has, allows};
 ghost use Rattle.features.specs.Kept.{kept, empty, keeping, resolves, Resolved};
 
-#[derive(Clone, Copy)]
+#[derive(Clone, Copy, Debug, PartialEq, Eq)]
 pub enum BtfFeature {
     Func,
     FuncGlobal,
@@ -18,20 +18,22 @@ pub enum BtfFeature {
     Enum64,
 }
 
-impl BtfFeature {
-    pub fn number(self) -> u8
-        ensures { result ≡ number_of self }
-    {
-        self as u8
-    }
+impl From<BtfFeature> for u8 {
+    ghost from_gives = { λ feature n. n ≡ number_of feature };
 
+    fn from(feature: BtfFeature) -> u8 {
+        feature as u8
+    }
+}
+
+impl BtfFeature {
     // The bit of this feature alone: `&` with it reads that bit of a number, and `|` with it sets the bit.
     fn mask(self) -> u8
         ensures reads { (n : ℕ) → (bit_and n result == 0) ≡ not (bit_of n self) }
         ensures sets { (n : ℕ) (f : BtfFeature) → bit_of (bit_or n result) f ≡ (same self f || bit_of n f) }
         ensures adds { (n : ℕ) → bit_or n result ≡ with_bit n self }
     {
-        1 << self.number()
+        1 << u8::from(self)
     }
 }
 
@@ -49,7 +51,7 @@ pub trait FeatureSource {
 }
 
 // A set of features: bit n is set where the feature of number n is in the set.
-#[derive(Clone, Copy)]
+#[derive(Clone, Copy, Debug, PartialEq, Eq)]
 pub struct FeatureSet {
     bits: u8,
 }
@@ -90,7 +92,7 @@ impl FeatureSource for FeatureSet {
 }
 
 // Has every feature but those that a caller's list names.
-#[derive(Clone, Copy)]
+#[derive(Clone, Copy, Debug)]
 pub struct RefusedFeatures<'a> {
     refused: &'a [BtfFeature],
 }
@@ -109,17 +111,12 @@ impl<'a> FeatureSource for RefusedFeatures<'a> {
     ghost asked = { λ s _ t. t ≡ s };
 
     fn is_supported(&mut self, feature: BtfFeature) -> bool {
-        for refused in self.refused {
-            if refused.number() == feature.number() {
-                return false;
-            }
-        }
-        true
+        !self.refused.contains(&feature)
     }
 }
 
 // The kept answers, one for each feature that was asked for.
-#[derive(Clone, Copy)]
+#[derive(Clone, Copy, Debug, Default)]
 struct Answers {
     func: Option<bool>,
     func_global: Option<bool>,
@@ -164,7 +161,7 @@ impl Answers {
 }
 
 // Asks its source about a feature at most once, and keeps the answer. It means what it keeps, and else what its source means.
-#[derive(Drop)]
+#[derive(Debug, Drop)]
 pub struct BtfFeatureResolver<F> {
     source: F,
     answers: Answers,
@@ -177,16 +174,7 @@ impl<F: FeatureSource> BtfFeatureResolver<F> {
     {
         BtfFeatureResolver {
             source,
-            answers: Answers {
-                func: None,
-                func_global: None,
-                data_sec: None,
-                data_sec_zero: None,
-                float: None,
-                decl_tag: None,
-                type_tag: None,
-                enum64: None,
-            },
+            answers: Answers::default(),
         }
     }
 }

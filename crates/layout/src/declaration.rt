@@ -8,7 +8,7 @@ use crate::kind::BtfKind;
 
 // `kind` may be any number, and so may `linkage`. What a kind does not have is passed over: the third word
 // of Fwd and Array, extra words, a linkage elsewhere than at Func and Var.
-#[derive(Clone, Copy)]
+#[derive(Clone, Copy, Debug, PartialEq, Eq)]
 pub struct Declaration {
     pub name_offset: u32,
     pub kind: u32,

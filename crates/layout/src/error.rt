@@ -2,15 +2,18 @@
 ghost use Rattle.std.specs.Prelude.{◌≡◌};
 ghost use Rattle.layout.specs.Refusals.{said};
 
+use std::error::Error;
+use std::fmt;
+
 // The three areas that a table is kept in.
-#[derive(Clone, Copy)]
+#[derive(Clone, Copy, Debug, PartialEq, Eq)]
 pub enum Area {
     Declarations,
     Elements,
     Strings,
 }
 
-#[derive(Clone, Copy)]
+#[derive(Clone, Copy, Debug, PartialEq, Eq)]
 pub enum BtfError {
     // The table was made over an empty area, or the string area is shorter than its strings.
     NoTable,
@@ -131,3 +134,55 @@ impl BtfError {
         }
     }
 }
+
+impl BtfError {
+    // What the refused value is.
+    fn value_label(&self) -> &'static str {
+        match self {
+            BtfError::InvalidTypeKind { .. } => "kind",
+            BtfError::UnexpectedFlag => "flag",
+            BtfError::InvalidLinkage { .. } => "linkage",
+            BtfError::TooManyElements { .. } => "elements",
+            BtfError::ZeroByteInName { .. } => "place",
+            BtfError::InvalidStringOffset { .. } => "offset",
+            BtfError::UnknownBtfType { .. } => "id",
+            BtfError::InvalidTypeInfo { .. } => "product",
+            BtfError::NoRoom { .. } => "area",
+            BtfError::OutputTooShort { .. } => "bytes",
+            _ => "value",
+        }
+    }
+}
+
+// A number behind what it is.
+fn write_part<W: fmt::Write>(
+    f: &mut fmt::Formatter<W>,
+    mark: &str,
+    label: &str,
+    number: u64,
+) -> fmt::Result {
+    write!(f, "{mark} {label} {number}")
+}
+
+// The number, the refused value, and the declaration and element that were read, as `refused 7: id 99` or
+// `refused 18: at id 5, element 3`.
+impl fmt::Display for BtfError {
+    fn fmt<W: fmt::Write>(&self, f: &mut fmt::Formatter<W>) -> fmt::Result {
+        write!(f, "refused {}", self.number())?;
+        let mut mark = ":";
+        if let Some(value) = self.value() {
+            write_part(f, mark, self.value_label(), value)?;
+            mark = ",";
+        }
+        if let Some(id) = self.declaration() {
+            write_part(f, mark, "at id", u64::from(id))?;
+            mark = ",";
+        }
+        if let Some(element) = self.element() {
+            write_part(f, mark, "element", u64::from(element))?;
+        }
+        Ok(())
+    }
+}
+
+impl Error for BtfError {}

@@ -16,7 +16,7 @@ const FLAG_SHIFT: u32 = 31;
 
 // As btf.h's `struct btf_type`, with the words that follow it for some kinds: Int its data, Array its
 // element id, index id and length, Var its linkage, DeclTag its component. Words that a kind lacks are 0.
-#[derive(Clone, Copy)]
+#[derive(Clone, Copy, Debug, PartialEq, Eq)]
 pub struct BtfType {
     pub name_offset: u32,
     pub info: u32,
@@ -28,14 +28,14 @@ pub struct BtfType {
 pub fn info_word(kind: BtfKind, flag: bool, low: u16) -> u32
     ensures { result ≡ info_word kind flag low }
 {
-    ((flag as u32) << FLAG_SHIFT) | (kind.number() << KIND_SHIFT) | low as u32
+    ((flag as u32) << FLAG_SHIFT) | (u32::from(kind) << KIND_SHIFT) | low as u32
 }
 
 impl BtfType {
     pub fn kind(&self) -> BtfKind
         ensures { result ≡ kind_of self.now.info }
     {
-        BtfKind::from_number((self.info >> KIND_SHIFT) & KIND_MASK)
+        BtfKind::from((self.info >> KIND_SHIFT) & KIND_MASK)
     }
 
     // The number that the info word has for the kind, which may be no kind's.
@@ -75,7 +75,7 @@ impl BtfType {
         ensures { result ≡ type_length self.now.info }
     {
         let kind = self.kind();
-        if kind.number() == 0 {
+        if kind == BtfKind::Unknown {
             return 0;
         }
         12 + 4 * kind.extra_words() + 4 * kind.element_words() * self.vlen() as usize

@@ -2,7 +2,7 @@
 ghost use Rattle.std.specs.Prelude.{◌≡◌};
 ghost use Rattle.layout.specs.Kinds.{kind_number, kind_at, takes_flag, has_linkage, extra_words, element_words};
 
-#[derive(Clone, Copy)]
+#[derive(Clone, Copy, Debug, PartialEq, Eq)]
 pub enum BtfKind {
     Unknown = 0,
     Int = 1,
@@ -26,11 +26,11 @@ pub enum BtfKind {
     Enum64 = 19,
 }
 
-impl BtfKind {
-    // The kind of a number, Unknown where no kind has it.
-    pub fn from_number(n: u32) -> BtfKind
-        ensures { result ≡ kind_at n }
-    {
+// The kind of a number, Unknown where no kind has it.
+impl From<u32> for BtfKind {
+    ghost from_gives = { λ n kind. kind ≡ kind_at n };
+
+    fn from(n: u32) -> BtfKind {
         match n {
             1 => BtfKind::Int,
             2 => BtfKind::Ptr,
@@ -54,31 +54,31 @@ impl BtfKind {
             _ => BtfKind::Unknown,
         }
     }
+}
 
-    pub fn number(self) -> u32
-        ensures { result ≡ kind_number self }
-    {
-        self as u32
+impl From<BtfKind> for u32 {
+    ghost from_gives = { λ kind n. n ≡ kind_number kind };
+
+    fn from(kind: BtfKind) -> u32 {
+        kind as u32
     }
+}
 
+impl BtfKind {
     // Whether a declaration of this kind may have the flag.
     pub fn takes_flag(self) -> bool
         ensures { result ≡ takes_flag self }
     {
-        match self {
-            BtfKind::Struct | BtfKind::Union | BtfKind::Enum | BtfKind::Fwd | BtfKind::Enum64 =>
-                true,
-            _ => false,
-        }
+        matches!(
+            self,
+            BtfKind::Struct | BtfKind::Union | BtfKind::Enum | BtfKind::Fwd | BtfKind::Enum64
+        )
     }
 
     pub fn has_linkage(self) -> bool
         ensures { result ≡ has_linkage self }
     {
-        match self {
-            BtfKind::Func | BtfKind::Var => true,
-            _ => false,
-        }
+        matches!(self, BtfKind::Func | BtfKind::Var)
     }
 
     // How many words stand between the third word and the elements.

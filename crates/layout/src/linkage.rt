@@ -3,7 +3,7 @@ ghost use Rattle.std.specs.Prelude.{◌≡◌};
 ghost use Rattle.layout.specs.Kinds.{linkage_number};
 
 // The last is aya-obj's Unknown, the number 3.
-#[derive(Clone, Copy)]
+#[derive(Clone, Copy, Debug, PartialEq, Eq)]
 pub enum Linkage {
     Static,
     Global,
@@ -11,10 +11,10 @@ pub enum Linkage {
     Unstated,
 }
 
-impl Linkage {
-    pub fn number(self) -> u32
-        ensures { result ≡ linkage_number self }
-    {
-        self as u32
+impl From<Linkage> for u32 {
+    ghost from_gives = { λ linkage n. n ≡ linkage_number linkage };
+
+    fn from(linkage: Linkage) -> u32 {
+        linkage as u32
     }
 }

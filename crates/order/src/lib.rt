@@ -16,44 +16,32 @@ pub trait ByteOrder {
         ensures { result ≡ order.word n };
 }
 
-#[derive(Clone, Copy)]
+#[derive(Clone, Copy, Debug)]
 pub struct LittleEndian;
 
 impl ByteOrder for LittleEndian {
     ghost order = { little };
 
-    fn half(&self, n: u16) -> [u8; 2] {
-        [(n & 0xff) as u8, (n >> 8) as u8]
+    fn half(&self, half: u16) -> [u8; 2] {
+        half.to_le_bytes()
     }
 
-    fn word(&self, n: u32) -> [u8; 4] {
-        let low = (n & 0xff) as u8;
-        [
-            low,
-            ((n >> 8) & 0xff) as u8,
-            ((n >> 16) & 0xff) as u8,
-            (n >> 24) as u8,
-        ]
+    fn word(&self, word: u32) -> [u8; 4] {
+        word.to_le_bytes()
     }
 }
 
-#[derive(Clone, Copy)]
+#[derive(Clone, Copy, Debug)]
 pub struct BigEndian;
 
 impl ByteOrder for BigEndian {
     ghost order = { big };
 
-    fn half(&self, n: u16) -> [u8; 2] {
-        [(n >> 8) as u8, (n & 0xff) as u8]
+    fn half(&self, half: u16) -> [u8; 2] {
+        half.to_be_bytes()
     }
 
-    fn word(&self, n: u32) -> [u8; 4] {
-        let high = (n >> 24) as u8;
-        [
-            high,
-            ((n >> 16) & 0xff) as u8,
-            ((n >> 8) & 0xff) as u8,
-            (n & 0xff) as u8,
-        ]
+    fn word(&self, word: u32) -> [u8; 4] {
+        word.to_be_bytes()
     }
 }

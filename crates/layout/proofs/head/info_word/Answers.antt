@@ -3,4 +3,4 @@ use Rattle.layout.proofs.Words.{info_built}
 use Rattle.layout.proofs.head.info_word.Goals as goal
 
 pub returns : goal.returns
-returns c = info_built c.args.kind c.args.flag c.args.low c.number.result c.number.ensures (omega arith)
+returns c = info_built c.args.kind c.args.flag c.args.low c.from.result c.from.ensures (omega arith)
