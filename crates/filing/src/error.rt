@@ -1,0 +1,39 @@
+// Why there is no file.
+ghost use Rattle.std.specs.Prelude.{◌≡◌};
+ghost use Rattle.filing.specs.declared.error.FilingError.TheVariants.{Table, Memory};
+
+use layout::BtfError;
+use std::alloc::AllocError;
+use std::fmt;
+use thiserror::Error;
+
+#[derive(Clone, Copy, Error)]
+pub enum FilingError {
+    #[error("the table refused, by number {number}", number = .0.number())]
+    Table(BtfError),
+    #[error("no memory is left")]
+    Memory,
+}
+
+// Its text, since a `BtfError` has no `Debug` to derive from.
+impl fmt::Debug for FilingError {
+    fn fmt<W: fmt::Write>(&self, f: &mut fmt::Formatter<W>) -> fmt::Result {
+        write!(f, "{self}")
+    }
+}
+
+impl From<BtfError> for FilingError {
+    ghost from_gives = { λ refusal e. e ≡ Table refusal };
+
+    fn from(refusal: BtfError) -> FilingError {
+        FilingError::Table(refusal)
+    }
+}
+
+impl From<AllocError> for FilingError {
+    ghost from_gives = { λ _ e. e ≡ Memory };
+
+    fn from(_e: AllocError) -> FilingError {
+        FilingError::Memory
+    }
+}
