@@ -17,8 +17,14 @@ pub enum Answer<'s> {
 
 // The words that a kind lacks are not printed.
 fn show_head<W: fmt::Write>(head: &BtfType, f: &mut fmt::Formatter<W>) -> fmt::Result {
-    write!(f, "ok {} {} {}", head.name_offset, head.info, head.size_or_type)?;
-    for word in head.extra.iter().take(head.kind().extra_words()) {
+    let BtfType {
+        name_offset,
+        info,
+        size_or_type,
+        extra,
+    } = head;
+    write!(f, "ok {name_offset} {info} {size_or_type}")?;
+    for word in extra.iter().take(head.kind().extra_words()) {
         write!(f, " {word}")?;
     }
     Ok(())
@@ -28,8 +34,9 @@ fn show_element<W: fmt::Write>(element: &BtfElement, f: &mut fmt::Formatter<W>) 
     match element {
         BtfElement::Variant(e) => write!(f, "ok {} {}", e.name_offset, e.value),
         BtfElement::Param(e) => write!(f, "ok {} {}", e.name_offset, e.btf_type),
-        BtfElement::Variant64(e) =>
-            write!(f, "ok {} {} {}", e.name_offset, e.value_low, e.value_high),
+        BtfElement::Variant64(e) => {
+            write!(f, "ok {} {} {}", e.name_offset, e.value_low, e.value_high)
+        }
         BtfElement::Member(e) => write!(f, "ok {} {} {}", e.name_offset, e.btf_type, e.offset),
         BtfElement::Entry(e) => write!(f, "ok {} {} {}", e.btf_type, e.offset, e.size),
     }

@@ -44,7 +44,7 @@ fn read_endian(words: &mut Words) -> Result<Endian, Malformed> {
 // Unknown is the kind of the number 0 and of those that no kind has.
 fn read_kind(words: &mut Words) -> Result<BtfKind, Malformed> {
     let number = words.word(Part::Kind)?;
-    match BtfKind::from_number(number) {
+    match BtfKind::from(number) {
         BtfKind::Unknown if number != 0 => Err(Malformed::NoKindNumber(number)),
         kind => Ok(kind),
     }

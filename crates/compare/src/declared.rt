@@ -143,11 +143,7 @@ fn linked(declaration: Declaration, words: &mut Words) -> Result<Declaration, Ma
 }
 
 // What stands between the name and the elements.
-fn read_declaration(
-    kind: BtfKind,
-    name: u32,
-    words: &mut Words,
-) -> Result<Declaration, Malformed> {
+fn read_declaration(kind: BtfKind, name: u32, words: &mut Words) -> Result<Declaration, Malformed> {
     Ok(match kind {
         BtfKind::Unknown => return Err(Malformed::UnknownKind),
         BtfKind::Int => int(name, words)?,
@@ -161,9 +157,15 @@ fn read_declaration(
         BtfKind::Volatile => Volatile::new(words.word(Part::Id)?),
         BtfKind::Const => Const::new(words.word(Part::Id)?),
         BtfKind::Restrict => Restrict::new(words.word(Part::Id)?),
-        BtfKind::Func => linked(Func::new(name, words.word(Part::Id)?, Linkage::Static), words)?,
+        BtfKind::Func => linked(
+            Func::new(name, words.word(Part::Id)?, Linkage::Static),
+            words,
+        )?,
         BtfKind::FuncProto => FuncProto::new(words.word(Part::Id)?),
-        BtfKind::Var => linked(Var::new(name, words.word(Part::Id)?, Linkage::Static), words)?,
+        BtfKind::Var => linked(
+            Var::new(name, words.word(Part::Id)?, Linkage::Static),
+            words,
+        )?,
         BtfKind::DataSec => DataSec::new(name, words.word(Part::Size)?),
         BtfKind::Float => Float::new(name, words.word(Part::Size)?),
         BtfKind::DeclTag => DeclTag::new(name, words.word(Part::Id)?, words.component()?),

@@ -1,12 +1,13 @@
 // What a line can meet: a refusal of the table or a malformed word, which are answered, or what ends the program.
 use crate::answer::Refusal;
 use crate::malformed::Malformed;
+use filing::FilingError;
 use layout::BtfError;
 use std::alloc::AllocError;
-use std::{fmt, io};
+use std::io;
 use thiserror::Error;
 
-#[derive(Drop, Error)]
+#[derive(Debug, Drop, Error)]
 pub enum Fault {
     #[error("{}", Refusal(*.0))]
     Table(#[from] BtfError),
@@ -18,8 +19,11 @@ pub enum Fault {
     Io(#[from] io::Error),
 }
 
-impl fmt::Debug for Fault {
-    fn fmt<W: fmt::Write>(&self, f: &mut fmt::Formatter<W>) -> fmt::Result {
-        write!(f, "{self}")
+impl From<FilingError> for Fault {
+    fn from(e: FilingError) -> Fault {
+        match e {
+            FilingError::Table(refusal) => Fault::Table(refusal),
+            FilingError::Memory => Fault::Memory(AllocError),
+        }
     }
 }

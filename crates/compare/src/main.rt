@@ -15,7 +15,7 @@ mod serving;
 mod words;
 
 use crate::fault::Fault;
-use crate::script::lines;
+use crate::script::{Line, lines};
 use crate::serving::{Session, serve};
 use elements::Element;
 use std::io::{BufWriter, Read, Write};
@@ -38,11 +38,9 @@ fn run(rt: &HostRuntime) -> Result<(), Fault> {
     let mut out = BufWriter::new(heap, rt.stdout())?;
     // A script goes from a line `new` up to the next one. What stands before the first has no table.
     for script in lines(heap, &input)?.chunk_by(|_, line| !line.begins_table()) {
-        let session = script
-            .first()
-            .filter(|line| line.begins_table())
-            .map(|_| Session::new(heap, &mut rows, &mut elements, &mut names));
-        serve(heap, &mut out, session, script)?;
+        let begins = script.first().is_some_and(Line::begins_table);
+        let mut session = begins.then(|| Session::new(heap, &mut rows, &mut elements, &mut names));
+        serve(heap, &mut out, &mut session, script)?;
     }
     out.flush()?;
     Ok(())

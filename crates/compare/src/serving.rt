@@ -6,6 +6,7 @@ use crate::fault::Fault;
 use crate::malformed::Malformed;
 use crate::script::Line;
 use elements::{BtfMember, Element};
+use filing::FilingError;
 use layout::BtfError;
 use order::{BigEndian, ByteOrder, LittleEndian};
 use std::alloc::Global;
@@ -34,49 +35,41 @@ impl<'a> Session<'a> {
 
 const NO_MEMBERS: &[BtfMember] = &[];
 
-impl Session<'_> {
-    fn add(&mut self, declared: &Declared) -> Result<u32, BtfError> {
-        let Session { table, names, .. } = self;
-        let declaration = &declared.declaration;
-        match &declared.tail {
-            Tail::None => table.add_type(names, declaration, NO_MEMBERS),
-            Tail::Values(values) => table.add_type(names, declaration, values),
-            Tail::Values64(values) => table.add_type(names, declaration, values),
-            Tail::Members(members) => table.add_type(names, declaration, members),
-            Tail::Params(params) => table.add_type(names, declaration, params),
-            Tail::Entries(entries) => table.add_type(names, declaration, entries),
-        }
+// `names` is only read, but of two fields that are lent together the check wants both as `&mut`.
+fn add(table: &mut Btf, names: &mut [u8], declared: &Declared) -> Result<u32, BtfError> {
+    let declaration = &declared.declaration;
+    match &declared.tail {
+        Tail::None => table.add_type(names, declaration, NO_MEMBERS),
+        Tail::Values(values) => table.add_type(names, declaration, values),
+        Tail::Values64(values) => table.add_type(names, declaration, values),
+        Tail::Members(members) => table.add_type(names, declaration, members),
+        Tail::Params(params) => table.add_type(names, declaration, params),
+        Tail::Entries(entries) => table.add_type(names, declaration, entries),
     }
+}
 
+impl Session<'_> {
     fn ask(&self, question: &Question) -> Result<Answer<'_>, BtfError> {
         let Session { table, names, .. } = self;
         Ok(match question {
             Question::StringAt(offset) => Answer::Name(table.string_at(names, *offset)?),
             Question::TypeName(id) => Answer::Name(table.type_name(names, *id)?),
             Question::TypeById(id) => Answer::Head(table.type_by_id(names, *id)?),
-            Question::ElementAt { id, index } =>
-                Answer::Element(table.element_at(names, *id, *index)?),
+            Question::ElementAt { id, index } => Answer::Element(table.element_at(
+                names, *id, *index,
+            )?),
             Question::ResolveType(id) => Answer::Number(table.resolve_type(names, *id)?.0),
-            Question::TypeSize { id, width } =>
-                Answer::Number(table.type_size(names, *id, *width)?.0),
-            Question::IdByNameKind { kind, name } =>
-                Answer::Number(table.id_by_type_name_kind(names, name, *kind)?),
+            Question::TypeSize { id, width } => Answer::Number(
+                table.type_size(names, *id, *width)?.0,
+            ),
+            Question::IdByNameKind { kind, name } => Answer::Number(table.id_by_type_name_kind(
+                names, name, *kind,
+            )?),
         })
     }
 
-    // How many bytes the file has, as the refusal of an empty buffer says.
-    fn file_length<O: ByteOrder>(&self, order: &O) -> Result<usize, BtfError> {
-        match self.table.to_bytes(self.names, order, &mut []) {
-            Err(BtfError::OutputTooShort { needed }) => Ok(needed),
-            length => length,
-        }
-    }
-
-    fn encoded<O: ByteOrder>(&self, order: &O) -> Result<Vec<u8>, Fault> {
-        let mut bytes = vec![in self.heap; 0u8; self.file_length(order)?]?;
-        let written = self.table.to_bytes(self.names, order, &mut bytes)?;
-        bytes.truncate(written);
-        Ok(bytes)
+    fn file<O: ByteOrder>(&self, order: &O) -> Result<Vec<u8>, FilingError> {
+        filing::to_vec(self.heap, &self.table, self.names, order)
     }
 
     fn run(&mut self, command: &Command) -> Result<Answer<'_>, Fault> {
@@ -84,18 +77,22 @@ impl Session<'_> {
             // The table of a script is new when its first line is read.
             Command::New => Answer::Done,
             Command::AddString(name) => Answer::Number(self.table.add_string(self.names, name)?),
-            Command::AddType(declared) => Answer::Number(self.add(declared)?),
+            Command::AddType(declared) => Answer::Number(add(
+                &mut self.table,
+                self.names,
+                declared,
+            )?),
             Command::Ask(question) => self.ask(question)?,
             Command::Rewrite => Answer::Unsupported,
-            Command::Encode(Endian::Little) => Answer::File(self.encoded(&LittleEndian)?),
-            Command::Encode(Endian::Big) => Answer::File(self.encoded(&BigEndian)?),
+            Command::Encode(Endian::Little) => Answer::File(self.file(&LittleEndian)?),
+            Command::Encode(Endian::Big) => Answer::File(self.file(&BigEndian)?),
         })
     }
 }
 
 fn answer<'s>(
     heap: Global,
-    session: &'s mut Option<Session<'_>>,
+    session: &'s mut Option<Session>,
     line: &[u8],
 ) -> Result<Answer<'s>, Fault> {
     let command = Command::read(heap, line)?;
@@ -116,12 +113,12 @@ fn print<W: Write>(out: &mut W, line: usize, answer: Result<Answer, Fault>) -> R
 pub fn serve<W: Write>(
     heap: Global,
     out: &mut W,
-    mut session: Option<Session>,
+    session: &mut Option<Session>,
     script: &[Line],
 ) -> Result<(), Fault> {
     for line in script {
         if !line.is_passed_over() {
-            print(out, line.number, answer(heap, &mut session, line.text))?;
+            print(out, line.number, answer(heap, session, line.text))?;
         }
     }
     Ok(())

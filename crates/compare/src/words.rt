@@ -72,7 +72,7 @@ impl<'a> Words<'a> {
     pub fn name(&mut self) -> Result<Vec<u8>, Fault> {
         match self.text(Part::Name)? {
             [b'=', name @ ..] => decoded(self.heap, name),
-            _ => Err(Malformed::NotAName)?,
+            _ => Err(Malformed::NotAName.into()),
         }
     }
 
