@@ -9,63 +9,41 @@ pub enum Answer<'s> {
     Done,
     Number(u32),
     Name(&'s [u8]),
-    Words(Row),
+    Head(BtfType),
+    Element(BtfElement),
     File(Vec<u8>),
     Unsupported,
 }
 
-// The words of a head or an element, the first `count` of them.
-#[derive(Clone, Copy)]
-pub struct Row {
-    words: [u32; 6],
-    count: usize,
-}
-
-impl Row {
-    pub fn of_head(head: &BtfType) -> Row {
-        let [a, b, c] = head.extra;
-        Row {
-            words: [head.name_offset, head.info, head.size_or_type, a, b, c],
-            count: head.kind().extra_words().saturating_add(3),
-        }
-    }
-
-    fn of_two(a: u32, b: u32) -> Row {
-        Row {
-            words: [a, b, 0, 0, 0, 0],
-            count: 2,
-        }
-    }
-
-    fn of_three(a: u32, b: u32, c: u32) -> Row {
-        Row {
-            words: [a, b, c, 0, 0, 0],
-            count: 3,
-        }
-    }
-
-    pub fn of_element(element: &BtfElement) -> Row {
-        match *element {
-            BtfElement::Variant(e) => Row::of_two(e.name_offset, e.value),
-            BtfElement::Param(e) => Row::of_two(e.name_offset, e.btf_type),
-            BtfElement::Variant64(e) => Row::of_three(e.name_offset, e.value_low, e.value_high),
-            BtfElement::Member(e) => Row::of_three(e.name_offset, e.btf_type, e.offset),
-            BtfElement::Entry(e) => Row::of_three(e.btf_type, e.offset, e.size),
-        }
-    }
-}
-
-fn show_row<W: fmt::Write>(row: &Row, f: &mut fmt::Formatter<W>) -> fmt::Result {
-    f.write_str("ok")?;
-    for word in row.words.iter().take(row.count) {
+// The words that a kind lacks are not printed.
+fn show_head<W: fmt::Write>(head: &BtfType, f: &mut fmt::Formatter<W>) -> fmt::Result {
+    let BtfType {
+        name_offset,
+        info,
+        size_or_type,
+        extra,
+    } = head;
+    write!(f, "ok {name_offset} {info} {size_or_type}")?;
+    for word in extra.iter().take(head.kind().extra_words()) {
         write!(f, " {word}")?;
     }
     Ok(())
 }
 
+fn show_element<W: fmt::Write>(element: &BtfElement, f: &mut fmt::Formatter<W>) -> fmt::Result {
+    match element {
+        BtfElement::Variant(e) => write!(f, "ok {} {}", e.name_offset, e.value),
+        BtfElement::Param(e) => write!(f, "ok {} {}", e.name_offset, e.btf_type),
+        BtfElement::Variant64(e) => {
+            write!(f, "ok {} {} {}", e.name_offset, e.value_low, e.value_high)
+        }
+        BtfElement::Member(e) => write!(f, "ok {} {} {}", e.name_offset, e.btf_type, e.offset),
+        BtfElement::Entry(e) => write!(f, "ok {} {} {}", e.btf_type, e.offset, e.size),
+    }
+}
+
 fn show_file<W: fmt::Write>(bytes: &[u8], f: &mut fmt::Formatter<W>) -> fmt::Result {
-    let length = bytes.len();
-    write!(f, "ok {length} ")?;
+    write!(f, "ok {} ", bytes.len())?;
     for byte in bytes {
         write!(f, "{byte:02x}")?;
     }
@@ -78,8 +56,9 @@ impl fmt::Display for Answer<'_> {
             Answer::Done => f.write_str("ok"),
             Answer::Number(number) => write!(f, "ok {number}"),
             Answer::Name(name) => write!(f, "ok {}", Shown(name)),
-            Answer::Words(row) => show_row(row, f),
-            Answer::File(bytes) => show_file(bytes.as_slice(), f),
+            Answer::Head(head) => show_head(head, f),
+            Answer::Element(element) => show_element(element, f),
+            Answer::File(bytes) => show_file(bytes, f),
             Answer::Unsupported => f.write_str("unsupported"),
         }
     }
@@ -92,23 +71,21 @@ pub struct Refusal(pub BtfError);
 
 impl Refusal {
     fn value(&self) -> Option<u64> {
-        let Refusal(e) = *self;
-        match e {
-            BtfError::UnexpectedBtfType { type_id } => Some(type_id as u64),
-            BtfError::MaximumTypeDepthReached { type_id } => Some(type_id as u64),
-            BtfError::InvalidTypeInfo { .. } => None,
-            BtfError::NoSuchElement { .. } => None,
-            _ => e.value(),
+        match self.0 {
+            BtfError::UnexpectedBtfType { type_id }
+            | BtfError::MaximumTypeDepthReached { type_id } => Some(u64::from(type_id)),
+            BtfError::InvalidTypeInfo { .. } | BtfError::NoSuchElement { .. } => None,
+            e => e.value(),
         }
     }
 }
 
 impl fmt::Display for Refusal {
     fn fmt<W: fmt::Write>(&self, f: &mut fmt::Formatter<W>) -> fmt::Result {
-        let number = self.0.number();
+        write!(f, "refused {}", self.0.number())?;
         match self.value() {
-            Some(value) => write!(f, "refused {number} {value}"),
-            None => write!(f, "refused {number}"),
+            Some(value) => write!(f, " {value}"),
+            None => Ok(()),
         }
     }
 }

@@ -1,5 +1,4 @@
 // The commands of a script.
-use crate::declared;
 use crate::declared::Declared;
 use crate::fault::Fault;
 use crate::malformed::{Malformed, Part};
@@ -34,72 +33,67 @@ pub enum Command {
     Encode(Endian),
 }
 
-fn read_endian(words: &mut Words) -> Result<Endian, Fault> {
+fn read_endian(words: &mut Words) -> Result<Endian, Malformed> {
     match words.text(Part::Order)? {
         b"little" => Ok(Endian::Little),
         b"big" => Ok(Endian::Big),
-        _ => Err(Fault::Line(Malformed::NotAnOrder)),
+        _ => Err(Malformed::NotAnOrder),
     }
 }
 
-fn read_kind(words: &mut Words) -> Result<BtfKind, Fault> {
+// Unknown is the kind of the number 0 and of those that no kind has.
+fn read_kind(words: &mut Words) -> Result<BtfKind, Malformed> {
     let number = words.word(Part::Kind)?;
-    if 19 < number {
-        return Err(Fault::Line(Malformed::NoKindNumber(number)));
-    }
-    Ok(BtfKind::from_number(number))
-}
-
-fn read_element(words: &mut Words) -> Result<Question, Fault> {
-    let id = words.word(Part::Id)?;
-    let index = words.word(Part::Index)?;
-    Ok(Question::ElementAt { id, index })
-}
-
-fn read_size(words: &mut Words) -> Result<Question, Fault> {
-    let id = words.word(Part::Id)?;
-    let width = words.width()?;
-    Ok(Question::TypeSize { id, width })
-}
-
-fn read_search(heap: Global, words: &mut Words) -> Result<Question, Fault> {
-    let kind = read_kind(words)?;
-    let name = words.name(heap)?;
-    Ok(Question::IdByNameKind { kind, name })
-}
-
-fn read_question(heap: Global, first: &[u8], words: &mut Words) -> Result<Question, Fault> {
-    match first {
-        b"string" => Ok(Question::StringAt(words.word(Part::Offset)?)),
-        b"name" => Ok(Question::TypeName(words.word(Part::Id)?)),
-        b"get" => Ok(Question::TypeById(words.word(Part::Id)?)),
-        b"element" => read_element(words),
-        b"resolve" => Ok(Question::ResolveType(words.word(Part::Id)?)),
-        b"size" => read_size(words),
-        b"find" => read_search(heap, words),
-        _ => Err(Fault::Line(Malformed::UnknownCommand)),
+    match BtfKind::from(number) {
+        BtfKind::Unknown if number != 0 => Err(Malformed::NoKindNumber(number)),
+        kind => Ok(kind),
     }
 }
 
-fn read_command(heap: Global, words: &mut Words) -> Result<Command, Fault> {
-    match words.take() {
-        b"new" => Ok(Command::New),
-        b"str" => Ok(Command::AddString(words.name(heap)?)),
-        b"type" => Ok(Command::AddType(declared::read(heap, words)?)),
-        b"bytes" => Ok(Command::Encode(read_endian(words)?)),
+fn read_question(first: &[u8], words: &mut Words) -> Result<Question, Fault> {
+    Ok(match first {
+        b"string" => Question::StringAt(words.word(Part::Offset)?),
+        b"name" => Question::TypeName(words.word(Part::Id)?),
+        b"get" => Question::TypeById(words.word(Part::Id)?),
+        b"element" => Question::ElementAt {
+            id: words.word(Part::Id)?,
+            index: words.word(Part::Index)?,
+        },
+        b"resolve" => Question::ResolveType(words.word(Part::Id)?),
+        b"size" => Question::TypeSize {
+            id: words.word(Part::Id)?,
+            width: words.width()?,
+        },
+        b"find" => Question::IdByNameKind {
+            kind: read_kind(words)?,
+            name: words.name()?,
+        },
+        _ => return Err(Malformed::UnknownCommand.into()),
+    })
+}
+
+fn read_command(words: &mut Words) -> Result<Command, Fault> {
+    let first = words.next().ok_or(Malformed::UnknownCommand)?;
+    Ok(match first {
+        b"new" => Command::New,
+        b"str" => Command::AddString(words.name()?),
+        b"type" => Command::AddType(Declared::read(words)?),
+        b"bytes" => Command::Encode(read_endian(words)?),
         b"fix" => {
             // Not offered yet, so what it says is not read.
             words.pass_over();
-            Ok(Command::Rewrite)
+            Command::Rewrite
         }
-        first => Ok(Command::Ask(read_question(heap, first, words)?)),
-    }
+        _ => Command::Ask(read_question(first, words)?),
+    })
 }
 
-// The command of a line.
-pub fn read(heap: Global, line: &[u8]) -> Result<Command, Fault> {
-    let mut words = Words::new(line);
-    let command = read_command(heap, &mut words)?;
-    words.end()?;
-    Ok(command)
+impl Command {
+    // The command of a line.
+    pub fn read(heap: Global, line: &[u8]) -> Result<Command, Fault> {
+        let mut words = Words::new(heap, line);
+        let command = read_command(&mut words)?;
+        words.end()?;
+        Ok(command)
+    }
 }

@@ -8,7 +8,6 @@ use declare::{
 };
 use elements::{BtfEnum, BtfEnum64, BtfMember, BtfParam, DataSecEntry};
 use layout::{BtfKind, Declaration, Linkage};
-use std::alloc::Global;
 
 // The elements of a declaration.
 #[derive(Drop)]
@@ -27,253 +26,176 @@ pub struct Declared {
     pub tail: Tail,
 }
 
-// What a list of a script is made of: two words or three.
+// What a list of a script is made of.
 trait Item: Drop + Sized {
-    fn has_third() -> bool;
-
-    fn of(first: u32, second: u32, third: u32) -> Self;
+    fn read(words: &mut Words) -> Result<Self, Malformed>;
 }
 
 impl Item for BtfEnum {
-    fn has_third() -> bool {
-        false
-    }
-
-    fn of(first: u32, second: u32, _third: u32) -> BtfEnum {
-        BtfEnum {
-            name_offset: first,
-            value: second,
-        }
+    fn read(words: &mut Words) -> Result<BtfEnum, Malformed> {
+        Ok(BtfEnum {
+            name_offset: words.word(Part::Element)?,
+            value: words.word(Part::Element)?,
+        })
     }
 }
 
 impl Item for BtfEnum64 {
-    fn has_third() -> bool {
-        true
-    }
-
-    fn of(first: u32, second: u32, third: u32) -> BtfEnum64 {
-        BtfEnum64 {
-            name_offset: first,
-            value_low: second,
-            value_high: third,
-        }
+    fn read(words: &mut Words) -> Result<BtfEnum64, Malformed> {
+        Ok(BtfEnum64 {
+            name_offset: words.word(Part::Element)?,
+            value_low: words.word(Part::Element)?,
+            value_high: words.word(Part::Element)?,
+        })
     }
 }
 
 impl Item for BtfMember {
-    fn has_third() -> bool {
-        true
-    }
-
-    fn of(first: u32, second: u32, third: u32) -> BtfMember {
-        BtfMember {
-            name_offset: first,
-            btf_type: second,
-            offset: third,
-        }
+    fn read(words: &mut Words) -> Result<BtfMember, Malformed> {
+        Ok(BtfMember {
+            name_offset: words.word(Part::Element)?,
+            btf_type: words.word(Part::Element)?,
+            offset: words.word(Part::Element)?,
+        })
     }
 }
 
 impl Item for BtfParam {
-    fn has_third() -> bool {
-        false
-    }
-
-    fn of(first: u32, second: u32, _third: u32) -> BtfParam {
-        BtfParam {
-            name_offset: first,
-            btf_type: second,
-        }
+    fn read(words: &mut Words) -> Result<BtfParam, Malformed> {
+        Ok(BtfParam {
+            name_offset: words.word(Part::Element)?,
+            btf_type: words.word(Part::Element)?,
+        })
     }
 }
 
 impl Item for DataSecEntry {
-    fn has_third() -> bool {
-        true
+    fn read(words: &mut Words) -> Result<DataSecEntry, Malformed> {
+        Ok(DataSecEntry {
+            btf_type: words.word(Part::Element)?,
+            offset: words.word(Part::Element)?,
+            size: words.word(Part::Element)?,
+        })
     }
-
-    fn of(first: u32, second: u32, third: u32) -> DataSecEntry {
-        DataSecEntry {
-            btf_type: first,
-            offset: second,
-            size: third,
-        }
-    }
-}
-
-fn read_item<I: Item>(words: &mut Words) -> Result<I, Fault> {
-    let first = words.word(Part::Element)?;
-    let second = words.word(Part::Element)?;
-    let third = if I::has_third() {
-        words.word(Part::Element)?
-    } else {
-        0
-    };
-    Ok(I::of(first, second, third))
 }
 
 // A list: how many items there are, and then the items.
-fn list<I: Item>(heap: Global, words: &mut Words) -> Result<Vec<I>, Fault> {
-    let count = words.word(Part::Count)?;
-    let mut items = Vec::new(heap);
-    for _ in 0..count {
-        items.push(read_item(words)?)?;
+fn list<I: Item>(words: &mut Words) -> Result<Vec<I>, Fault> {
+    let mut items = Vec::new(words.heap);
+    for _ in 0..words.word(Part::Count)? {
+        items.push(I::read(words)?)?;
     }
     Ok(items)
 }
 
-// The words for the kinds, in the order of their numbers from 1.
-const KIND_WORDS: [&str; 19] = [
-    "int",
-    "ptr",
-    "array",
-    "struct",
-    "union",
-    "enum",
-    "fwd",
-    "typedef",
-    "volatile",
-    "const",
-    "restrict",
-    "func",
-    "funcproto",
-    "var",
-    "datasec",
-    "float",
-    "decltag",
-    "typetag",
-    "enum64",
-];
-
-fn kind_of(text: &[u8]) -> Option<BtfKind> {
-    let mut number = 1u32;
-    for word in KIND_WORDS {
-        if word.as_bytes() == text {
-            return Some(BtfKind::from_number(number));
-        }
-        number = number.saturating_add(1);
-    }
-    None
+fn read_kind(words: &mut Words) -> Result<BtfKind, Malformed> {
+    Ok(match words.text(Part::Kind)? {
+        b"int" => BtfKind::Int,
+        b"ptr" => BtfKind::Ptr,
+        b"array" => BtfKind::Array,
+        b"struct" => BtfKind::Struct,
+        b"union" => BtfKind::Union,
+        b"enum" => BtfKind::Enum,
+        b"fwd" => BtfKind::Fwd,
+        b"typedef" => BtfKind::Typedef,
+        b"volatile" => BtfKind::Volatile,
+        b"const" => BtfKind::Const,
+        b"restrict" => BtfKind::Restrict,
+        b"func" => BtfKind::Func,
+        b"funcproto" => BtfKind::FuncProto,
+        b"var" => BtfKind::Var,
+        b"datasec" => BtfKind::DataSec,
+        b"float" => BtfKind::Float,
+        b"decltag" => BtfKind::DeclTag,
+        b"typetag" => BtfKind::TypeTag,
+        b"enum64" => BtfKind::Enum64,
+        _ => return Err(Malformed::UnknownKind),
+    })
 }
 
-fn alone(declaration: Declaration) -> Declared {
-    Declared {
-        declaration,
-        tail: Tail::None,
-    }
-}
-
-fn int(name: u32, words: &mut Words) -> Result<Declared, Fault> {
+fn int(name: u32, words: &mut Words) -> Result<Declaration, Malformed> {
     let size = words.word(Part::Size)?;
     let encoding = words.word(Part::Encoding)?;
-    let offset = words.word(Part::Offset)?;
-    Ok(alone(Int::new(name, size, encoding, offset)))
+    Ok(Int::new(name, size, encoding, words.word(Part::Offset)?))
 }
 
-fn array(name: u32, words: &mut Words) -> Result<Declared, Fault> {
+fn array(name: u32, words: &mut Words) -> Result<Declaration, Malformed> {
     let element_type = words.word(Part::Id)?;
     let index_type = words.word(Part::Id)?;
     let length = words.word(Part::Length)?;
-    Ok(alone(Array::new(name, element_type, index_type, length)))
-}
-
-// A declaration that names one id and has nothing else.
-fn reference(kind: BtfKind, name: u32, words: &mut Words) -> Result<Declared, Fault> {
-    let id = words.word(Part::Id)?;
-    let declaration = match kind {
-        BtfKind::Typedef => Typedef::new(name, id),
-        BtfKind::Volatile => Volatile::new(id),
-        BtfKind::Const => Const::new(id),
-        BtfKind::Restrict => Restrict::new(id),
-        BtfKind::TypeTag => TypeTag::new(name, id),
-        _ => Ptr::new(name, id),
-    };
-    // Some constructors give no name; a script may.
-    Ok(alone(Declaration {
-        name_offset: name,
-        ..declaration
-    }))
-}
-
-fn composite(heap: Global, kind: BtfKind, name: u32, words: &mut Words) -> Result<Declared, Fault> {
-    let flag = words.flag()?;
-    let size = words.word(Part::Size)?;
-    let declaration = match kind {
-        BtfKind::Union => Union::new(name, flag, size),
-        _ => Struct::new(name, flag, size),
-    };
-    let tail = Tail::Members(list(heap, words)?);
-    Ok(Declared { declaration, tail })
+    Ok(Array::new(name, element_type, index_type, length))
 }
 
 // The constructors give the sizes 4 and 8; a script may give others.
-fn values(heap: Global, kind: BtfKind, name: u32, words: &mut Words) -> Result<Declared, Fault> {
-    let flag = words.flag()?;
-    let size = words.word(Part::Size)?;
-    let (declaration, tail) = match kind {
-        BtfKind::Enum64 => (Enum64::new(name, flag), Tail::Values64(list(heap, words)?)),
-        _ => (Enum::new(name, flag), Tail::Values(list(heap, words)?)),
-    };
-    let declaration = Declaration {
-        size_or_type: size,
+fn sized(declaration: Declaration, words: &mut Words) -> Result<Declaration, Malformed> {
+    Ok(Declaration {
+        size_or_type: words.word(Part::Size)?,
         ..declaration
-    };
-    Ok(Declared { declaration, tail })
+    })
 }
 
 // The constructors take a linkage that there is; a script may give another number.
-fn linked(kind: BtfKind, name: u32, words: &mut Words) -> Result<Declared, Fault> {
-    let id = words.word(Part::Id)?;
-    let linkage = words.word(Part::Linkage)?;
-    let declaration = match kind {
-        BtfKind::Var => Var::new(name, id, Linkage::Static),
-        _ => Func::new(name, id, Linkage::Static),
-    };
-    Ok(alone(Declaration {
-        linkage,
+fn linked(declaration: Declaration, words: &mut Words) -> Result<Declaration, Malformed> {
+    Ok(Declaration {
+        linkage: words.word(Part::Linkage)?,
         ..declaration
-    }))
+    })
 }
 
-fn proto(heap: Global, name: u32, words: &mut Words) -> Result<Declared, Fault> {
-    let declaration = Declaration {
-        name_offset: name,
-        ..FuncProto::new(words.word(Part::Id)?)
-    };
-    let tail = Tail::Params(list(heap, words)?);
-    Ok(Declared { declaration, tail })
+// What stands between the name and the elements.
+fn read_declaration(kind: BtfKind, name: u32, words: &mut Words) -> Result<Declaration, Malformed> {
+    Ok(match kind {
+        BtfKind::Unknown => return Err(Malformed::UnknownKind),
+        BtfKind::Int => int(name, words)?,
+        BtfKind::Ptr => Ptr::new(name, words.word(Part::Id)?),
+        BtfKind::Array => array(name, words)?,
+        BtfKind::Struct => Struct::new(name, words.flag()?, words.word(Part::Size)?),
+        BtfKind::Union => Union::new(name, words.flag()?, words.word(Part::Size)?),
+        BtfKind::Enum => sized(Enum::new(name, words.flag()?), words)?,
+        BtfKind::Fwd => Fwd::new(name, words.flag()?),
+        BtfKind::Typedef => Typedef::new(name, words.word(Part::Id)?),
+        BtfKind::Volatile => Volatile::new(words.word(Part::Id)?),
+        BtfKind::Const => Const::new(words.word(Part::Id)?),
+        BtfKind::Restrict => Restrict::new(words.word(Part::Id)?),
+        BtfKind::Func => linked(
+            Func::new(name, words.word(Part::Id)?, Linkage::Static),
+            words,
+        )?,
+        BtfKind::FuncProto => FuncProto::new(words.word(Part::Id)?),
+        BtfKind::Var => linked(
+            Var::new(name, words.word(Part::Id)?, Linkage::Static),
+            words,
+        )?,
+        BtfKind::DataSec => DataSec::new(name, words.word(Part::Size)?),
+        BtfKind::Float => Float::new(name, words.word(Part::Size)?),
+        BtfKind::DeclTag => DeclTag::new(name, words.word(Part::Id)?, words.component()?),
+        BtfKind::TypeTag => TypeTag::new(name, words.word(Part::Id)?),
+        BtfKind::Enum64 => sized(Enum64::new(name, words.flag()?), words)?,
+    })
 }
 
-fn section(heap: Global, name: u32, words: &mut Words) -> Result<Declared, Fault> {
-    let declaration = DataSec::new(name, words.word(Part::Size)?);
-    let tail = Tail::Entries(list(heap, words)?);
-    Ok(Declared { declaration, tail })
+fn read_tail(kind: BtfKind, words: &mut Words) -> Result<Tail, Fault> {
+    Ok(match kind {
+        BtfKind::Enum => Tail::Values(list(words)?),
+        BtfKind::Enum64 => Tail::Values64(list(words)?),
+        BtfKind::Struct | BtfKind::Union => Tail::Members(list(words)?),
+        BtfKind::FuncProto => Tail::Params(list(words)?),
+        BtfKind::DataSec => Tail::Entries(list(words)?),
+        _ => Tail::None,
+    })
 }
 
-fn tag(name: u32, words: &mut Words) -> Result<Declared, Fault> {
-    let id = words.word(Part::Id)?;
-    let component = words.component()?;
-    Ok(alone(DeclTag::new(name, id, component)))
-}
-
-// A declaration behind the word `type`.
-pub fn read(heap: Global, words: &mut Words) -> Result<Declared, Fault> {
-    let Some(kind) = kind_of(words.text(Part::Kind)?) else {
-        return Err(Fault::Line(Malformed::UnknownKind));
-    };
-    let name = words.word(Part::NameOffset)?;
-    match kind {
-        BtfKind::Int => int(name, words),
-        BtfKind::Array => array(name, words),
-        BtfKind::Struct | BtfKind::Union => composite(heap, kind, name, words),
-        BtfKind::Enum | BtfKind::Enum64 => values(heap, kind, name, words),
-        BtfKind::Fwd => Ok(alone(Fwd::new(name, words.flag()?))),
-        BtfKind::Func | BtfKind::Var => linked(kind, name, words),
-        BtfKind::FuncProto => proto(heap, name, words),
-        BtfKind::DataSec => section(heap, name, words),
-        BtfKind::Float => Ok(alone(Float::new(name, words.word(Part::Size)?))),
-        BtfKind::DeclTag => tag(name, words),
-        _ => reference(kind, name, words),
+impl Declared {
+    // A declaration behind the word `type`.
+    pub fn read(words: &mut Words) -> Result<Declared, Fault> {
+        let kind = read_kind(words)?;
+        let name_offset = words.word(Part::NameOffset)?;
+        // Some constructors give no name; a script may.
+        let declaration = Declaration {
+            name_offset,
+            ..read_declaration(kind, name_offset, words)?
+        };
+        let tail = read_tail(kind, words)?;
+        Ok(Declared { declaration, tail })
     }
 }

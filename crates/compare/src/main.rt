@@ -15,11 +15,11 @@ mod serving;
 mod words;
 
 use crate::fault::Fault;
-use crate::script::Scripts;
-use crate::serving::serve;
+use crate::script::{Line, lines};
+use crate::serving::{Session, serve};
 use elements::Element;
 use std::io::{BufWriter, Read, Write};
-use table::{Btf, TypeRow};
+use table::TypeRow;
 
 // The areas are as long as a table can use them, so that a script lacks room only where every table would.
 const MOST_DECLARATIONS: usize = 1_048_575;
@@ -36,13 +36,11 @@ fn run(rt: &HostRuntime) -> Result<(), Fault> {
     let mut elements = vec![in heap; Element::empty(); MOST_ELEMENTS]?;
     let mut names = vec![in heap; 0u8; MOST_NAME_BYTES]?;
     let mut out = BufWriter::new(heap, rt.stdout())?;
-    for script in Scripts::new(input.as_slice()) {
-        let mut table = Btf::new(
-            rows.as_mut_slice(),
-            elements.as_mut_slice(),
-            names.as_mut_slice(),
-        );
-        serve(heap, &mut out, &mut table, names.as_mut_slice(), &script)?;
+    // A script goes from a line `new` up to the next one. What stands before the first has no table.
+    for script in lines(heap, &input)?.chunk_by(|_, line| !line.begins_table()) {
+        let begins = script.first().is_some_and(Line::begins_table);
+        let mut session = begins.then(|| Session::new(heap, &mut rows, &mut elements, &mut names));
+        serve(heap, &mut out, &mut session, script)?;
     }
     out.flush()?;
     Ok(())

@@ -1,24 +1,37 @@
 // Why a line is no command.
 use std::fmt;
+use thiserror::Error;
 
-#[derive(Clone, Copy)]
+#[derive(Clone, Copy, Debug, Error)]
 pub enum Malformed {
+    #[error("there is no table yet: say new first")]
     NoTable,
+    #[error("no such command")]
     UnknownCommand,
+    #[error("no such kind")]
     UnknownKind,
+    #[error("the {0} is missing")]
     Missing(Part),
+    #[error("the {0} is not a number")]
     NotANumber(Part),
+    #[error("the {0} does not fit")]
     TooLarge(Part),
+    #[error("the flag is neither 0 nor 1")]
     NotAFlag,
+    #[error("a name is = and its bytes, others than A-Za-z0-9_./- as %HH")]
     NotAName,
+    #[error("the width is neither 4 nor 8")]
     NotAWidth,
+    #[error("the byte order is neither little nor big")]
     NotAnOrder,
+    #[error("no kind has the number {0}")]
     NoKindNumber(u32),
+    #[error("there are too many words")]
     TooManyWords,
 }
 
 // What a word stands for.
-#[derive(Clone, Copy)]
+#[derive(Clone, Copy, Debug)]
 pub enum Part {
     Kind,
     Name,
@@ -58,26 +71,5 @@ impl fmt::Display for Part {
             Part::Width => "width",
             Part::Order => "byte order",
         })
-    }
-}
-
-impl fmt::Display for Malformed {
-    fn fmt<W: fmt::Write>(&self, f: &mut fmt::Formatter<W>) -> fmt::Result {
-        match *self {
-            Malformed::NoTable => f.write_str("there is no table yet: say new first"),
-            Malformed::UnknownCommand => f.write_str("no such command"),
-            Malformed::UnknownKind => f.write_str("no such kind"),
-            Malformed::Missing(part) => write!(f, "the {part} is missing"),
-            Malformed::NotANumber(part) => write!(f, "the {part} is not a number"),
-            Malformed::TooLarge(part) => write!(f, "the {part} does not fit"),
-            Malformed::NotAFlag => f.write_str("the flag is neither 0 nor 1"),
-            Malformed::NotAName => {
-                f.write_str("a name is = and its bytes, others than A-Za-z0-9_./- as %HH")
-            }
-            Malformed::NotAWidth => f.write_str("the width is neither 4 nor 8"),
-            Malformed::NotAnOrder => f.write_str("the byte order is neither little nor big"),
-            Malformed::NoKindNumber(number) => write!(f, "no kind has the number {number}"),
-            Malformed::TooManyWords => f.write_str("there are too many words"),
-        }
     }
 }

@@ -1,4 +1,7 @@
 // Names as a script writes them: = and the bytes, others than A-Za-z0-9_./- as %HH.
+ghost use Rattle.std.specs.Prelude.{length};
+ghost use Rattle.std.specs.Iterator.{at_most};
+
 use crate::fault::Fault;
 use crate::malformed::Malformed;
 use crate::numbers::byte_of;
@@ -6,53 +9,33 @@ use std::alloc::Global;
 use std::fmt;
 
 fn is_plain(b: u8) -> bool {
-    match b {
-        b'A'..=b'Z' | b'a'..=b'z' | b'0'..=b'9' | b'_' | b'.' | b'/' | b'-' => true,
-        _ => false,
+    b.is_ascii_alphanumeric() || matches!(b, b'_' | b'.' | b'/' | b'-')
+}
+
+// The bytes that a written name stands for, up to one that is not written so.
+#[derive(Drop)]
+struct Bytes<'a> {
+    rest: &'a [u8],
+}
+
+impl Iterator for Bytes<'_> {
+    type Item = Result<u8, Fault>;
+
+    ghost remaining = { λ s. at_most (length s.rest.now) };
+
+    fn next(&mut self) -> Option<Result<u8, Fault>> {
+        let (byte, rest) = match self.rest {
+            [] => return None,
+            [b'%', high, low, rest @ ..] => (byte_of(*high, *low), rest),
+            [plain, rest @ ..] => (is_plain(*plain).then_some(*plain), rest),
+        };
+        self.rest = rest;
+        Some(byte.ok_or(Malformed::NotAName.into()))
     }
 }
 
-// How far an escape has been read.
-#[derive(Clone, Copy)]
-enum Escape {
-    Outside,
-    AtPercent,
-    AtHigh,
-}
-
-// The bytes of a name.
 pub fn decoded(heap: Global, text: &[u8]) -> Result<Vec<u8>, Fault> {
-    let mut name = Vec::new(heap);
-    let mut escape = Escape::Outside;
-    let mut high = 0u8;
-    for b in text {
-        match escape {
-            Escape::Outside => {
-                if *b == b'%' {
-                    escape = Escape::AtPercent;
-                } else if is_plain(*b) {
-                    name.push(*b)?;
-                } else {
-                    return Err(Fault::Line(Malformed::NotAName));
-                }
-            }
-            Escape::AtPercent => {
-                high = *b;
-                escape = Escape::AtHigh;
-            }
-            Escape::AtHigh => {
-                let Some(byte) = byte_of(high, *b) else {
-                    return Err(Fault::Line(Malformed::NotAName));
-                };
-                name.push(byte)?;
-                escape = Escape::Outside;
-            }
-        }
-    }
-    match escape {
-        Escape::Outside => Ok(name),
-        _ => Err(Fault::Line(Malformed::NotAName)),
-    }
+    Bytes { rest: text }.try_collect(heap)
 }
 
 // A name as it is printed.
