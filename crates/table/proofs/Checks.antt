@@ -2,15 +2,24 @@
 use Rattle.std.proofs.Common.{◌≡◌, ℕ, ◌+◌, ◌<◌, ◌≤◌, min, Bool, true, false, cond, not, ◌&&◌, ◌||◌, eqb, ltb, leb, List, length, Some, None, Option, sym, refl, ap, ◌∙◌, arith}
 use Rattle.std.proofs.lemmas.Bool.{leb-false, ltb-false, eqb-false, or_parts, both_ways, lt-ltb}
 use Rattle.layout.specs.Kinds.{kind_at, kind_number, takes_flag, has_linkage}
-use Rattle.layout.specs.Refusals.{Refusal, refusal}
+use Rattle.layout.specs.Refusals.{Refusal, refusal, accepted, refused}
 use Rattle.layout.specs.declared.kind.BtfKind.{BtfKind}
 use Rattle.layout.specs.declared.declaration.Declaration.{Declaration}
 use Rattle.meaning.specs.Table.{Table, holds, refuses, accepts, no_table, most_decls, most_elements}
+use Rattle.meaning.specs.Questions.{asked_of}
 use Rattle.meaning.specs.Adding.{unless, no_room, declaration_fault, room_fault, add_type, with_type}
 
 pub none_first : {A : Type 0} (b : Bool) (x : A) (rest : Option A) → None ≡ cond b (Some x) rest → (b ≡ false) × (None ≡ rest)
 none_first true x rest e = let z : ◌≡◌ {A = ℕ} 0 1 = cc in absurd (omega arith)
 none_first false x rest e = (refl, e)
+
+held_by : {A : Type 0} (b : Bool) (x y : A) → accepted x ≡ cond (not b) (refused no_table) (accepted y) → (b ≡ true) × (x ≡ y)
+held_by true x y e = (refl, cc)
+held_by false x y e = absurd (cc)
+
+-- what is answered of a table that holds something
+pub asked_held : {A : Type 0} (t : Table) (x y : A) → accepted x ≡ asked_of t (accepted y) → (holds t ≡ true) × (x ≡ y)
+asked_held t x y e = held_by (holds t) x y e
 
 -- what room for a declaration and n elements means
 pub room_none : (t : Table) (n : ℕ) → None ≡ room_fault t n → (length t.decls < min t.decl_room most_decls) × (t.elements + n ≤ min t.element_room most_elements)

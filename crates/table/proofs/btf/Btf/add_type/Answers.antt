@@ -9,13 +9,19 @@ use Rattle.meaning.specs.Table.{accepts}
 use Rattle.meaning.specs.Adding.{declaration_fault, room_fault, with_type}
 use Rattle.layout.specs.Info.{elements_of}
 use Rattle.table.specs.Tables.{table_of, Put}
-use Rattle.table.proofs.Checks.{type_accepted, declaration_none, room_none}
+use Rattle.table.proofs.Checks.{asked_held, type_accepted, declaration_none, room_none}
 use Rattle.table.proofs.Counts.{decl_count}
 use Rattle.table.proofs.Tables.{head_elements, all_mapped, table_put}
 use Rattle.table.proofs.btf.Btf.add_type.Goals as goal
 
 pub returns-in_err-check_room-clause-outcome : goal.returns-in_err-check_room-clause-outcome
 returns-in_err-check_room-clause-outcome g c = grind (arith, common_steps, c.in_err-check_room.ensures c.args.strings.now)
+
+pub overflow_cast-count : goal.overflow_cast-count
+overflow_cast-count g c =
+    let fine = declaration_none c.args.declaration.now g.E.ElementType.serving (length c.args.elements.now) c.in_ok-kind.ensures.fault in
+    let few = fine.few in
+    omega arith
 
 pub put_type-requires-clause-row : goal.put_type-requires-clause-row
 put_type-requires-clause-row g c =
@@ -64,6 +70,6 @@ returns-clause-outcome g c =
     table_put s later d kind tail put refl (omega arith) (omega arith) few worded counted c.args.strings.now in
     let id : c.put_type.result ≡ length t.decls = c.put_type.ensures.id ∙ sym rows in
     ap (λ u. accepts c.put_type.result u) whole ∙ ap (λ n. accepts n (with_type t d tail)) id ∙
-    type_accepted t d g.E.ElementType.serving tail (sym c.holds.ensures ∙ c.if-not-holds.false)
+    type_accepted t d g.E.ElementType.serving tail (asked_held t _ _ c.in_ok-view.ensures).0
     (c.in_ok-kind.ensures.fault ∙ ap (declaration_fault d g.E.ElementType.serving) (sym as_long))
     (c.in_ok-check_room.ensures c.args.strings.now ∙ ap (room_fault t) (sym as_long))
