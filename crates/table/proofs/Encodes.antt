@@ -1,6 +1,6 @@
 -- A whole file, written part by part.
-use Rattle.std.proofs.Common.{◌≡◌, ℕ, ◌<◌, ◌≤◌, true, cond, not, ltb, List, length, Some, None, sym, ap, ◌∙◌, arith}
-use Rattle.std.proofs.lemmas.Bool.{lt-ltb, le-ltb, cond-true, cond-false}
+use Rattle.std.proofs.Common.{◌≡◌, ℕ, ◌≤◌, true, cond, not, ltb, List, length, Some, None, sym, ap, ◌∙◌, arith}
+use Rattle.std.proofs.lemmas.Bool.{le-ltb, cond-false}
 use Rattle.layout.specs.Refusals.{accepted, refused, refusal}
 use Rattle.order.specs.Order.{Order}
 use Rattle.meaning.specs.Table.{Table, holds, no_table}
@@ -19,11 +19,6 @@ module _ (o : Order) (t : Table) (buffer : List ℕ) (n : ℕ) (held : holds t �
   past_holds =
       sym (ap (λ b. cond (not b) (record { answer = refused no_table; buffer = buffer })
       (cond (ltb (length buffer) (file_length t)) (record { answer = refused (refusal 17 None None (Some (file_length t))); buffer = buffer }) (record { answer = accepted (file_length t); buffer = over 0 (file o t) buffer }))) held)
-
-  pub encode_short : length buffer < n → ◌≡◌ {A = Written} (record { answer = refused (refusal 17 None None (Some n)); buffer = buffer }) (encode o t buffer)
-  encode_short h =
-      ap (λ m. record { answer = refused (refusal 17 None None (Some m)); buffer = buffer }) needed ∙
-      sym (cond-true (ltb (length buffer) (file_length t)) _ _ (lt-ltb (length buffer) (file_length t) (omega arith))) ∙ past_holds
 
   pub encode_fits : (later : List ℕ) → n ≤ length buffer → later ≡ over 0 (file o t) buffer → ◌≡◌ {A = Written} (record { answer = accepted n; buffer = later }) (encode o t buffer)
   encode_fits later h e =

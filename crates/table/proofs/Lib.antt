@@ -2,7 +2,6 @@ mod Begun
 mod Checks
 mod Counts
 mod Encodes
-mod Lengths
 mod Maps
 mod Names
 mod Rows

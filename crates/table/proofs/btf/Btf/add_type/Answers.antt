@@ -5,11 +5,10 @@ use Rattle.std.specs.List.{AllByRecursion}
 use Rattle.layout.specs.Kinds.{kind_at, element_words}
 use Rattle.layout.specs.Heads.{head_kept}
 use Rattle.elements.specs.Packing.{packed}
-use Rattle.meaning.specs.Table.{accepts}
-use Rattle.meaning.specs.Adding.{declaration_fault, room_fault, with_type}
+use Rattle.meaning.specs.Adding.{with_type}
 use Rattle.layout.specs.Info.{elements_of}
 use Rattle.table.specs.Tables.{table_of, Put}
-use Rattle.table.proofs.Checks.{asked_held, type_accepted, declaration_none, room_none}
+use Rattle.table.proofs.Checks.{declaration_none, room_none}
 use Rattle.table.proofs.Counts.{decl_count}
 use Rattle.table.proofs.Tables.{head_elements, all_mapped, table_put}
 use Rattle.table.proofs.btf.Btf.add_type.Goals as goal
@@ -69,7 +68,4 @@ returns-clause-outcome g c =
     let whole : table_of later c.args.strings.now ≡ with_type t d tail =
     table_put s later d kind tail put refl (omega arith) (omega arith) few worded counted c.args.strings.now in
     let id : c.put_type.result ≡ length t.decls = c.put_type.ensures.id ∙ sym rows in
-    ap (λ u. accepts c.put_type.result u) whole ∙ ap (λ n. accepts n (with_type t d tail)) id ∙
-    type_accepted t d g.E.ElementType.serving tail (asked_held t _ _ c.in_ok-view.ensures).0
-    (c.in_ok-kind.ensures.fault ∙ ap (declaration_fault d g.E.ElementType.serving) (sym as_long))
-    (c.in_ok-check_room.ensures c.args.strings.now ∙ ap (room_fault t) (sym as_long))
+    grind (arith, common_steps, whole, id, c.in_ok-check_room.ensures c.args.strings.now)
