@@ -4,7 +4,6 @@ mod Counts
 mod Encodes
 mod Maps
 mod Names
-mod Rows
 mod Tables
 mod Writes
 mod Writing

@@ -1,7 +1,8 @@
-use Rattle.std.proofs.Common.{◌≡◌, ◌<◌, ◌≤◌, map, length, sym, refl, ap, ◌∙◌, subst, arith}
+use Rattle.std.proofs.Common.{◌≡◌, ◌<◌, ◌≤◌, map, length, get_or, sym, refl, ap, ◌∙◌, subst, arith}
 use Rattle.std.proofs.lemmas.Grind.{common_steps}
+use Rattle.std.proofs.lemmas.List.Elements.{All-map}
 use lib.ListN.{length-map}
-use Rattle.std.specs.List.{AllByRecursion}
+use Rattle.std.specs.List.{All}
 use Rattle.layout.specs.Kinds.{kind_at, element_words}
 use Rattle.layout.specs.Heads.{head_kept}
 use Rattle.elements.specs.Packing.{packed}
@@ -10,7 +11,7 @@ use Rattle.layout.specs.Info.{elements_of}
 use Rattle.table.specs.Tables.{table_of, Put}
 use Rattle.table.proofs.Checks.{declaration_none, room_none}
 use Rattle.table.proofs.Counts.{decl_count}
-use Rattle.table.proofs.Tables.{head_elements, all_mapped, table_put}
+use Rattle.table.proofs.Tables.{head_elements, table_put}
 use Rattle.table.proofs.btf.Btf.add_type.Goals as goal
 
 pub returns-in_err-check_room-clause-outcome : goal.returns-in_err-check_room-clause-outcome
@@ -59,9 +60,9 @@ returns-clause-outcome g c =
     let few : length tail ≤ 65535 = let f = fine.few in omega arith in
     let worded : 0 < length tail → 0 < element_words kind =
     λ some. subst (λ n. 0 < n) (sym (g.met.E.ElementType.suits kind (fine.serves (subst (λ n. 0 < n) as_long some)))) g.met.E.ElementType.wide in
-    let counted : AllByRecursion (λ ws. length ws ≡ element_words kind) tail =
-    all_mapped (λ ws. length ws ≡ element_words kind) g.E.ElementType.meaning c.args.elements.now
-    (λ some e. g.met.E.ElementType.counted e ∙ sym (g.met.E.ElementType.suits kind (fine.serves some))) in
+    let counted : All (λ ws. length ws ≡ element_words kind) tail =
+    All-map (λ ws. length ws ≡ element_words kind) g.E.ElementType.meaning c.args.elements.now
+    (λ k e h. g.met.E.ElementType.counted (get_or c.args.elements.now k e) ∙ sym (g.met.E.ElementType.suits kind (fine.serves (omega arith)))) in
     let head : c.head-head.result ≡ head_kept d kind (length tail) =
     c.head-head.ensures ∙ ap (λ k. head_kept d k count) c.in_ok-kind.ensures.kind ∙ ap (head_kept d kind) (sym as_long) in
     let put : Put s later (head_kept d kind (length tail)) (map packed tail) = subst (λ h. Put s later h (map packed tail)) head c.put_type.ensures.put in
