@@ -17,7 +17,7 @@ use rows::{TypeRow, View, string_from};
 // A table, and whether its strings end in a zero byte, as they do while their caller leaves them alone.
 #[derive(Clone, Copy)]
 struct Closing<'t> {
-    view: View<'t>,
+    view: View<'t, 't>,
     ended: bool,
     ghost ends: { ended ≡ true → Ends view.strings.now },
 }

@@ -57,7 +57,7 @@ impl Check for Members {
 // Sections granted: the entries of a section stay.
 #[derive(Clone, Copy)]
 struct Entries<'c> {
-    view: View<'c>,
+    view: View<'c, 'c>,
     lists: Lists<'c>,
     section: u32,
 }
@@ -107,7 +107,7 @@ impl Check for Entries<'_> {
 // The sections of a table, and whether sections are granted.
 #[derive(Clone, Copy)]
 struct Sections<'c> {
-    view: View<'c>,
+    view: View<'c, 'c>,
     lists: Lists<'c>,
     granted: bool,
 }

@@ -13,9 +13,9 @@ use crate::view::View;
 use elements::{BtfElement, Element};
 use layout::{BtfError, BtfKind, BtfType};
 
-impl<'t> View<'t> {
+impl<'t, 's> View<'t, 's> {
     // The name at an offset, which `holder` holds where the offset was not asked directly.
-    pub fn string_at(&self, holder: Option<u32>, offset: u32) -> Result<&'t [u8], BtfError>
+    pub fn string_at(&self, holder: Option<u32>, offset: u32) -> Result<&'s [u8], BtfError>
         ensures { told (λ s. s.now) result ≡ string_at self.now.strings.now holder offset }
     {
         string_from(self.strings, offset).ok_or(BtfError::InvalidStringOffset {
@@ -72,7 +72,7 @@ impl<'t> View<'t> {
     }
 
     // The name of a declaration.
-    pub fn type_name(&self, id: u32) -> Result<&'t [u8], BtfError>
+    pub fn type_name(&self, id: u32) -> Result<&'s [u8], BtfError>
         ensures { told (λ s. s.now) result ≡ type_name (decls self.now) self.now.strings.now id }
     {
         let row = self.row_at(None, id)?;

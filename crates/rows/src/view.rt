@@ -8,20 +8,21 @@ use elements::Element;
 // A table has no more declarations than this.
 const MOST_DECLARATIONS: usize = 1_048_575;
 
-// A table as it is asked: its rows, its elements and its strings.
+// A table as it is asked: its rows, its elements and its strings. The strings have a lifetime of their own, so that
+// a name may outlive the borrow of the table.
 #[derive(Clone, Copy, Debug)]
-pub struct View<'t> {
+pub struct View<'t, 's> {
     pub rows: &'t [TypeRow],
     pub elements: &'t [Element],
-    pub strings: &'t [u8],
+    pub strings: &'s [u8],
     ghost few: { length rows.now ≤ most_decls },
 }
 
-impl<'t> View<'t> {
+impl<'t, 's> View<'t, 's> {
     ghost use Rattle.std.specs.Prelude.{◌≡◌, take};
 
     // A view of as many rows as a table may have, for a caller that knows no bound on them.
-    pub fn new(rows: &'t [TypeRow], elements: &'t [Element], strings: &'t [u8]) -> View<'t>
+    pub fn new(rows: &'t [TypeRow], elements: &'t [Element], strings: &'s [u8]) -> View<'t, 's>
         ensures rows { result.rows.now ≡ take most_decls rows.now }
         ensures elements { result.elements.now ≡ elements.now }
         ensures strings { result.strings.now ≡ strings.now }

@@ -114,7 +114,7 @@ fn word_of(type_id: u32, product: u64) -> Result<u32, BtfError>
     u32::try_from(product).map_err(|_| BtfError::InvalidTypeInfo { type_id, product })
 }
 
-impl<'t> View<'t> {
+impl View<'_, '_> {
     // The end of an id, and how many links were followed to it.
     pub fn resolve_type(&self, id: u32) -> Result<(u32, u32), BtfError>
         ensures answer { told (λ p. (p.0, p.1)) result ≡ resolve_type (decls self.now) id }

@@ -1,11 +1,11 @@
 -- A new table.
 use Rattle.std.proofs.Common.{◌≡◌, ℕ, ◌<◌, List, [], ◌∷◌, map, length, take, set, sum_by, sym, ap, ◌∙◌, arith}
 use Rattle.std.specs.List.{All}
-use Rattle.std.proofs.lemmas.List.{take_more_set, length-set}
+use Rattle.std.proofs.lemmas.List.{take_more_set}
 use Rattle.std.proofs.lemmas.List.Elements.{All-cons, All-nil, All-same}
-use Rattle.std.proofs.lemmas.Bool.{lt-ltb}
+use Rattle.std.proofs.lemmas.Grind.{common_steps}
 use Rattle.elements.specs.declared.Element.{Element}
-use Rattle.meaning.specs.Table.{Table, made, void}
+use Rattle.meaning.specs.Table.{Table, made}
 use Rattle.rows.specs.Rows.{decl_of, void_row}
 use Rattle.rows.specs.declared.row.TypeRow.{TypeRow}
 use Rattle.table.specs.Placed.{Placed, row_length}
@@ -23,9 +23,4 @@ module _ (types : List TypeRow) (row : TypeRow) (is : row ≡ void_row) (some : 
   pub table_begun : (es : List Element) (old : List ℕ) → 0 < length old →
       ◌≡◌ {A = Table} (record { decls = map (decl_of es) (take 1 (set types 0 row)); area = set old 0 0; strings = 1; elements = 0; decl_room = length (set types 0 row); element_room = length es })
       (made (length types) (length es) old)
-  table_begun es old some_bytes =
-      let decls : map (decl_of es) (take 1 (set types 0 row)) ≡ void ∷ [] = ap (map (decl_of es)) one_row in
-      let long : length (set types 0 row) ≡ length types = length-set types 0 row in
-      let whole : ◌≡◌ {A = Table} (record { decls = map (decl_of es) (take 1 (set types 0 row)); area = set old 0 0; strings = 1; elements = 0; decl_room = length (set types 0 row); element_room = length es }) (record { decls = void ∷ []; area = set old 0 0; strings = 1; elements = 0; decl_room = length types; element_room = length es }) =
-      λ i. record { decls = decls i; area = set old 0 0; strings = 1; elements = 0; decl_room = long i; element_room = length es } in
-      whole ∙ sym (rw (lt-ltb 0 (length types) some, lt-ltb 0 (length old) some_bytes))
+  table_begun es old some_bytes = grind (arith, common_steps, one_row)

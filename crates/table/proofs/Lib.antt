@@ -2,10 +2,8 @@ mod Begun
 mod Checks
 mod Counts
 mod Encodes
-mod Lengths
 mod Maps
 mod Names
-mod Rows
 mod Tables
 mod Writes
 mod Writing

@@ -1,18 +1,18 @@
 -- The table that a `Btf` means, after a declaration is put behind the others.
-use Rattle.std.proofs.Common.{◌≡◌, ℕ, ◌+◌, ◌-◌, ◌^◌, ◌<◌, ◌≤◌, cond, ltb, List, [], ◌∷◌, ◌++◌, map, length, take, drop, replicate, sym, refl, ap, ◌∙◌, subst, ⊎_elim, arith}
+use Rattle.std.proofs.Common.{◌≡◌, ℕ, ◌+◌, ◌-◌, ◌^◌, ◌<◌, ◌≤◌, cond, ltb, List, [], ◌∷◌, ◌++◌, map, length, take, drop, replicate, sym, refl, ap, ◌∙◌, subst, ⊎_elim, arith, rules}
 use lib.ListN.{length-map}
-use Rattle.std.proofs.lemmas.List.{map_push, take-take, drop-take, take_at, drop_at, length-take-le, length-set}
-use Rattle.std.specs.List.{All, AllByRecursion}
-use Rattle.std.proofs.lemmas.List.Elements.{All-weaker}
+use Rattle.std.proofs.lemmas.List.{map_push, take_more_set, take-take, drop-take, take_at, drop_at, length-take-le, length-set}
+use Rattle.std.specs.List.{All}
+use Rattle.std.proofs.lemmas.List.Elements.{All-head, All-tail, All-weaker}
 use Rattle.std.proofs.lemmas.Bool.{cases_lt}
 use Rattle.layout.specs.Kinds.{element_words, kind_at}
 use Rattle.layout.specs.Heads.{low_bits, head_kept}
 use Rattle.layout.specs.declared.declaration.Declaration.{Declaration}
 use Rattle.layout.specs.Info.{kind_of, low_of, elements_of}
+use Rattle.layout.proofs.Each.{each_kind}
 use Rattle.layout.proofs.Words.{kind_built, low_built}
 use Rattle.layout.specs.declared.head.BtfType.{BtfType}
 use Rattle.layout.specs.declared.kind.BtfKind.{BtfKind}
-use Rattle.layout.specs.declared.kind.BtfKind.TheVariants.{Unknown, Int, Ptr, Array, Struct, Union, Enum, Fwd, Typedef, Volatile, Const, Restrict, Func, FuncProto, Var, DataSec, Float, DeclTag, TypeTag, Enum64}
 use Rattle.elements.specs.declared.Element.{Element}
 use Rattle.elements.specs.Packing.{packed}
 use Rattle.meaning.specs.Adding.{decl_with, with_type}
@@ -24,7 +24,6 @@ use Rattle.table.specs.Placed.{Placed}
 use Rattle.rows.specs.Rows.{row_of}
 use Rattle.table.specs.Tables.{table_of, used_rows, Put}
 use Rattle.table.proofs.Maps.{map_same}
-use Rattle.table.proofs.Rows.{rows_push}
 
 -- a part below n is the same in lists that agree up to n
 part_same : {X : Type 0} (from count n : ℕ) (xs ys : List X) → from + count ≤ n → take n xs ≡ take n ys → take count (drop from xs) ≡ take count (drop from ys)
@@ -38,11 +37,11 @@ read_back : (w : ℕ) (ws : List ℕ) → length ws ≡ w → take w (packed ws)
 read_back w ws e = take_at ws (replicate (3 - length ws) 0) w e
 
 -- elements that all have as many words as the kind asks for
-pub tail_back : (info : ℕ) (tail : List (List ℕ)) → AllByRecursion (λ ws. length ws ≡ element_words (kind_of info)) tail → map (kept_words info) (map packed tail) ≡ tail
+pub tail_back : (info : ℕ) (tail : List (List ℕ)) → All (λ ws. length ws ≡ element_words (kind_of info)) tail → map (kept_words info) (map packed tail) ≡ tail
 tail_back info [] each = refl
 tail_back info (ws ∷ tail) each =
-    let first : kept_words info (packed ws) ≡ ws = read_back (element_words (kind_of info)) ws each.0 in
-    let rest : map (kept_words info) (map packed tail) ≡ tail = tail_back info tail each.1 in
+    let first : kept_words info (packed ws) ≡ ws = read_back (element_words (kind_of info)) ws (All-head (λ us. length us ≡ element_words (kind_of info)) ws tail each) in
+    let rest : map (kept_words info) (map packed tail) ≡ tail = tail_back info tail (All-tail (λ us. length us ≡ element_words (kind_of info)) ws tail each) in
     cc
 
 module _ (s t : Btf) (head : BtfType) (new : List Element) (put : Put s t head new)
@@ -71,7 +70,7 @@ module _ (s t : Btf) (head : BtfType) (new : List Element) (put : Put s t head n
       (table_of t strings).decls ≡ (table_of s strings).decls ++ decl_with head tail ∷ []
   decls_put strings tail back =
       let row = row_of head s.element_count in
-      let rows : used_rows t ≡ used_rows s ++ row ∷ [] = ap (λ n. take n t.types.now) put.type_count ∙ ap (take (s.type_count + 1)) put.types ∙ rows_push s head row_room in
+      let rows : used_rows t ≡ used_rows s ++ row ∷ [] = ap (λ n. take n t.types.now) put.type_count ∙ ap (take (s.type_count + 1)) put.types ∙ take_more_set s.types.now s.type_count row row_room in
       let same : All (λ r. decl_of t.elements.now r ≡ decl_of s.elements.now r) (used_rows s) =
       All-weaker (Placed s.element_count) (λ r. decl_of t.elements.now r ≡ decl_of s.elements.now r) old_same (used_rows s) s.placed in
       let new_row : decl_of t.elements.now row ≡ decl_with head tail =
@@ -85,65 +84,22 @@ no_elements : (count : ℕ) → (0 < count → 0 < 0) → 0 ≡ count
 no_elements count h = ⊎_elim (λ (some : 0 < count). absurd (omega (arith, h some))) (λ (none : count ≤ 0). omega arith) (cases_lt 0 count)
 
 -- a declaration's elements are counted by its info word; a kind without elements has none
-elements_low : (kind : BtfKind) (linkage count : ℕ) → (0 < count → 0 < element_words kind) → cond (ltb 0 (element_words kind)) (low_bits kind linkage count) 0 ≡ count
-elements_low Unknown linkage count h = no_elements count h
-elements_low Int linkage count h = no_elements count h
-elements_low Ptr linkage count h = no_elements count h
-elements_low Array linkage count h = no_elements count h
-elements_low Struct linkage count h = refl
-elements_low Union linkage count h = refl
-elements_low Enum linkage count h = refl
-elements_low Fwd linkage count h = no_elements count h
-elements_low Typedef linkage count h = no_elements count h
-elements_low Volatile linkage count h = no_elements count h
-elements_low Const linkage count h = no_elements count h
-elements_low Restrict linkage count h = no_elements count h
-elements_low Func linkage count h = no_elements count h
-elements_low FuncProto linkage count h = refl
-elements_low Var linkage count h = no_elements count h
-elements_low DataSec linkage count h = refl
-elements_low Float linkage count h = no_elements count h
-elements_low DeclTag linkage count h = no_elements count h
-elements_low TypeTag linkage count h = no_elements count h
-elements_low Enum64 linkage count h = refl
+elements_low : (linkage count : ℕ) (kind : BtfKind) → (0 < count → 0 < element_words kind) → cond (ltb 0 (element_words kind)) (low_bits kind linkage count) 0 ≡ count
+elements_low linkage count = each_kind (λ kind. (0 < count → 0 < element_words kind) → cond (ltb 0 (element_words kind)) (low_bits kind linkage count) 0 ≡ count) (search (rules, no_elements))
 
-low_fits : (kind : BtfKind) (linkage count : ℕ) → count ≤ 65535 → low_bits kind linkage count < 2 ^ 16
-low_fits Func linkage count h = omega arith
-low_fits Unknown linkage count h = omega arith
-low_fits Int linkage count h = omega arith
-low_fits Ptr linkage count h = omega arith
-low_fits Array linkage count h = omega arith
-low_fits Struct linkage count h = omega arith
-low_fits Union linkage count h = omega arith
-low_fits Enum linkage count h = omega arith
-low_fits Fwd linkage count h = omega arith
-low_fits Typedef linkage count h = omega arith
-low_fits Volatile linkage count h = omega arith
-low_fits Const linkage count h = omega arith
-low_fits Restrict linkage count h = omega arith
-low_fits FuncProto linkage count h = omega arith
-low_fits Var linkage count h = omega arith
-low_fits DataSec linkage count h = omega arith
-low_fits Float linkage count h = omega arith
-low_fits DeclTag linkage count h = omega arith
-low_fits TypeTag linkage count h = omega arith
-low_fits Enum64 linkage count h = omega arith
+low_fits : (linkage count : ℕ) → count ≤ 65535 → (kind : BtfKind) → low_bits kind linkage count < 2 ^ 16
+low_fits linkage count few = each_kind (λ kind. low_bits kind linkage count < 2 ^ 16) (omega arith)
 
 module _ (d : Declaration) (kind : BtfKind) (count : ℕ) (few : count ≤ 65535) where
   pub head_kind : kind_of (head_kept d kind count).info ≡ kind
-  head_kind = kind_built kind d.flag (low_bits kind d.linkage count) (low_fits kind d.linkage count few)
+  head_kind = kind_built kind d.flag (low_bits kind d.linkage count) (low_fits d.linkage count few kind)
 
   pub head_elements : (0 < count → 0 < element_words kind) → elements_of (head_kept d kind count).info ≡ count
   head_elements h =
-      let low = low_built kind d.flag (low_bits kind d.linkage count) (low_fits kind d.linkage count few) in
+      let low = low_built kind d.flag (low_bits kind d.linkage count) (low_fits d.linkage count few kind) in
       ap (λ k. cond (ltb 0 (element_words k)) (low_of (head_kept d kind count).info) 0) head_kind ∙
       ap (λ n. cond (ltb 0 (element_words kind)) n 0) low ∙
-      elements_low kind d.linkage count h
-
--- every item of a mapped list has what every image has
-pub all_mapped : {X Y : Type 0} (P : Y → Type 0) (f : X → Y) (xs : List X) → (0 < length xs → (x : X) → P (f x)) → AllByRecursion P (map f xs)
-all_mapped P f [] each = tt
-all_mapped P f (x ∷ xs) each = (each (omega arith) x, all_mapped P f xs (λ h. each (omega arith)))
+      elements_low d.linkage count kind h
 
 -- the whole table after a declaration is put
 module _ (s t : Btf) (d : Declaration) (kind : BtfKind) (tail : List (List ℕ))
@@ -151,14 +107,14 @@ module _ (s t : Btf) (d : Declaration) (kind : BtfKind) (tail : List (List ℕ))
     (row_room : s.type_count < length s.types.now)
     (room : s.element_count + length tail ≤ length s.elements.now)
     (few : length tail ≤ 65535) (worded : 0 < length tail → 0 < element_words kind)
-    (counted : AllByRecursion (λ ws. length ws ≡ element_words kind) tail) where
+    (counted : All (λ ws. length ws ≡ element_words kind) tail) where
   pub table_put : (strings : List ℕ) → table_of t strings ≡ with_type (table_of s strings) d tail
   table_put strings =
       let head = head_kept d kind (length tail) in
       let as_long : length (map packed tail) ≡ length tail = length-map tail packed in
       let suits : elements_of head.info ≡ length (map packed tail) = head_elements d kind (length tail) few worded ∙ sym as_long in
-      let wide : AllByRecursion (λ ws. length ws ≡ element_words (kind_of head.info)) tail =
-      subst (λ k. AllByRecursion (λ ws. length ws ≡ element_words k) tail) (sym (head_kind d kind (length tail) few)) counted in
+      let wide : All (λ ws. length ws ≡ element_words (kind_of head.info)) tail =
+      subst (λ k. All (λ ws. length ws ≡ element_words k) tail) (sym (head_kind d kind (length tail) few)) counted in
       let decls : (table_of t strings).decls ≡ (table_of s strings).decls ++ decl_with (head_kept d (kind_at d.kind) (length tail)) tail ∷ [] =
       decls_put s t head (map packed tail) put row_room (omega arith) suits strings tail (tail_back head.info tail wide) ∙
       ap (λ k. (table_of s strings).decls ++ decl_with (head_kept d k (length tail)) tail ∷ []) known in

@@ -12,6 +12,7 @@ use Rattle.meaning.specs.Table.{Table, Outcome}
 use Rattle.meaning.specs.Adding.{over}
 use Rattle.meaning.specs.File.{Written}
 use Rattle.rows.specs.declared.row.TypeRow.{TypeRow}
+use Rattle.rows.specs.declared.view.View.{View}
 use Rattle.rows.specs.Rows.{decl_of, row_of}
 use Rattle.table.specs.declared.btf.Btf.{Btf}
 
@@ -27,6 +28,19 @@ table_of s area = record {
   decl_room = length s.types.now;
   element_room = length s.elements.now;
 }
+
+-- what stands in a view
+pub record Seen : Type 0 where
+  pub rows : List TypeRow
+  pub elements : List Element
+  pub strings : List ℕ
+
+abbrev pub seen : View → Seen
+seen view = record { rows = view.rows.now; elements = view.elements.now; strings = view.strings.now }
+
+-- the parts of the areas that questions are asked of
+abbrev pub in_use : Btf → List ℕ → Seen
+in_use s area = record { rows = used_rows s; elements = s.elements.now; strings = take s.string_len area }
 
 -- what an adding answered, and the table that it left
 abbrev pub outcome : Result ℕ BtfError → Btf → List ℕ → Outcome ℕ

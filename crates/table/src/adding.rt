@@ -3,7 +3,7 @@ ghost use Rattle.std.specs.Prelude.{◌≡◌, ℕ, ◌+◌, ◌<◌, ◌≤◌,
 ghost use Rattle.layout.specs.Info.{elements_of};
 ghost use Rattle.layout.specs.Kinds.{kind_at};
 ghost use Rattle.elements.specs.Packing.{packed};
-ghost use Rattle.meaning.specs.Table.{holds, most_decls, most_elements};
+ghost use Rattle.meaning.specs.Table.{most_decls, most_elements};
 ghost use Rattle.meaning.specs.Adding.{add_string, add_type, declaration_fault, room_fault};
 ghost use Rattle.table.specs.Tables.{table_of, outcome, fault_of, with_row, with_elements, Put};
 
@@ -32,8 +32,8 @@ fn declared_kind<E: ElementType>(
     ensures fault { fault_of result ≡ declaration_fault declaration.now E.serving count }
     ensures kind { IfOk result (λ kind. kind ≡ kind_at declaration.now.kind) }
 {
-    let kind = BtfKind::from_number(declaration.kind);
-    if kind.number() == 0 || (0 < count && !E::serves(kind)) {
+    let kind = BtfKind::from(declaration.kind);
+    if kind == BtfKind::Unknown || (0 < count && !E::serves(kind)) {
         return Err(BtfError::InvalidTypeKind {
             kind: declaration.kind,
         });
@@ -53,22 +53,13 @@ fn declared_kind<E: ElementType>(
 }
 
 impl Btf<'_> {
-    // Whether the table holds something and the string area has all its strings.
-    pub(crate) fn holds(&self, strings: &[u8]) -> bool
-        ensures { result ≡ holds (table_of self.now strings.now) }
-    {
-        0 < self.type_count && self.string_len <= strings.len()
-    }
-
     // Adds a name with its zero byte, and answers the offset where it stands.
     pub fn add_string(&mut self, strings: &mut [u8], name: &[u8]) -> Result<u32, BtfError>
         ensures outcome { outcome result self.new strings.new ≡ add_string (table_of self.old strings.old) name.now }
         ensures types { self.new.types.now ≡ self.old.types.now }
         ensures elements { self.new.elements.now ≡ self.old.elements.now }
     {
-        if !self.holds(strings) {
-            return Err(BtfError::NoTable);
-        }
+        self.view(strings)?;
         let place = name_length(name);
         if place < name.len() {
             return Err(BtfError::ZeroByteInName { place });
@@ -95,9 +86,7 @@ impl Btf<'_> {
         ensures types { self.new.types.now ≡ (if is_ok result then with_row self.old declaration.now (length elements.now) else self.old.types.now) }
         ensures elements { self.new.elements.now ≡ (if is_ok result then with_elements self.old (map E.meaning elements.now) else self.old.elements.now) }
     {
-        if !self.holds(strings) {
-            return Err(BtfError::NoTable);
-        }
+        self.view(strings)?;
         let count = elements.len();
         let kind = declared_kind::<E>(declaration, count)?;
         self.check_room(count)?;

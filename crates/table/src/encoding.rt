@@ -168,17 +168,15 @@ impl Btf<'_> {
     ) -> Result<usize, BtfError>
         ensures { written result out.new ≡ encode O.ByteOrder.order (table_of self.now strings.now) out.old }
     {
-        if !self.holds(strings) {
-            return Err(BtfError::NoTable);
-        }
+        let view = self.view(strings)?;
         let needed = HEADER_LEN + self.type_bytes + self.string_len;
         if out.len() < needed {
             return Err(BtfError::OutputTooShort { needed });
         }
         let mut writer = Writer { order, out, at: 0 };
         writer.header(self.type_bytes as u32, self.string_len as u32);
-        writer.rows(self.rows(), self.elements);
-        writer.bytes(&strings[0..self.string_len]);
+        writer.rows(view.rows, view.elements);
+        writer.bytes(view.strings);
         Ok(needed)
     }
 }

@@ -4,4 +4,4 @@ use Rattle.meaning.specs.Adding.{over}
 use Rattle.table.proofs.placing.put_tail.Given as goal
 
 abbrev pub invariant-loop-i : goal.invariant-loop-i
-invariant-loop-i g l = l.area ≡ over l.at (map (λ e. packed (g.E.ElementType.meaning e)) (take l.i l.tail)) l.initial.area
+invariant-loop-i g l = l.area ≡ over l.at (map packed (map g.E.ElementType.meaning (take l.i l.tail))) l.initial.area

@@ -1,21 +1,27 @@
-use Rattle.std.proofs.Common.{◌≡◌, ◌<◌, ◌≤◌, map, length, sym, refl, ap, ◌∙◌, subst, arith}
+use Rattle.std.proofs.Common.{◌≡◌, ◌<◌, ◌≤◌, map, length, get_or, sym, refl, ap, ◌∙◌, subst, arith}
 use Rattle.std.proofs.lemmas.Grind.{common_steps}
+use Rattle.std.proofs.lemmas.List.Elements.{All-map}
 use lib.ListN.{length-map}
-use Rattle.std.specs.List.{AllByRecursion}
+use Rattle.std.specs.List.{All}
 use Rattle.layout.specs.Kinds.{kind_at, element_words}
 use Rattle.layout.specs.Heads.{head_kept}
 use Rattle.elements.specs.Packing.{packed}
-use Rattle.meaning.specs.Table.{accepts}
-use Rattle.meaning.specs.Adding.{declaration_fault, room_fault, with_type}
+use Rattle.meaning.specs.Adding.{with_type}
 use Rattle.layout.specs.Info.{elements_of}
 use Rattle.table.specs.Tables.{table_of, Put}
-use Rattle.table.proofs.Checks.{type_accepted, declaration_none, room_none}
+use Rattle.table.proofs.Checks.{declaration_none, room_none}
 use Rattle.table.proofs.Counts.{decl_count}
-use Rattle.table.proofs.Tables.{head_elements, all_mapped, table_put}
+use Rattle.table.proofs.Tables.{head_elements, table_put}
 use Rattle.table.proofs.btf.Btf.add_type.Goals as goal
 
 pub returns-in_err-check_room-clause-outcome : goal.returns-in_err-check_room-clause-outcome
 returns-in_err-check_room-clause-outcome g c = grind (arith, common_steps, c.in_err-check_room.ensures c.args.strings.now)
+
+pub overflow_cast-count : goal.overflow_cast-count
+overflow_cast-count g c =
+    let fine = declaration_none c.args.declaration.now g.E.ElementType.serving (length c.args.elements.now) c.in_ok-kind.ensures.fault in
+    let few = fine.few in
+    omega arith
 
 pub put_type-requires-clause-row : goal.put_type-requires-clause-row
 put_type-requires-clause-row g c =
@@ -54,16 +60,13 @@ returns-clause-outcome g c =
     let few : length tail ≤ 65535 = let f = fine.few in omega arith in
     let worded : 0 < length tail → 0 < element_words kind =
     λ some. subst (λ n. 0 < n) (sym (g.met.E.ElementType.suits kind (fine.serves (subst (λ n. 0 < n) as_long some)))) g.met.E.ElementType.wide in
-    let counted : AllByRecursion (λ ws. length ws ≡ element_words kind) tail =
-    all_mapped (λ ws. length ws ≡ element_words kind) g.E.ElementType.meaning c.args.elements.now
-    (λ some e. g.met.E.ElementType.counted e ∙ sym (g.met.E.ElementType.suits kind (fine.serves some))) in
+    let counted : All (λ ws. length ws ≡ element_words kind) tail =
+    All-map (λ ws. length ws ≡ element_words kind) g.E.ElementType.meaning c.args.elements.now
+    (λ k e h. g.met.E.ElementType.counted (get_or c.args.elements.now k e) ∙ sym (g.met.E.ElementType.suits kind (fine.serves (omega arith)))) in
     let head : c.head-head.result ≡ head_kept d kind (length tail) =
     c.head-head.ensures ∙ ap (λ k. head_kept d k count) c.in_ok-kind.ensures.kind ∙ ap (head_kept d kind) (sym as_long) in
     let put : Put s later (head_kept d kind (length tail)) (map packed tail) = subst (λ h. Put s later h (map packed tail)) head c.put_type.ensures.put in
     let whole : table_of later c.args.strings.now ≡ with_type t d tail =
     table_put s later d kind tail put refl (omega arith) (omega arith) few worded counted c.args.strings.now in
     let id : c.put_type.result ≡ length t.decls = c.put_type.ensures.id ∙ sym rows in
-    ap (λ u. accepts c.put_type.result u) whole ∙ ap (λ n. accepts n (with_type t d tail)) id ∙
-    type_accepted t d g.E.ElementType.serving tail (sym c.holds.ensures ∙ c.if-not-holds.false)
-    (c.in_ok-kind.ensures.fault ∙ ap (declaration_fault d g.E.ElementType.serving) (sym as_long))
-    (c.in_ok-check_room.ensures c.args.strings.now ∙ ap (room_fault t) (sym as_long))
+    grind (arith, common_steps, whole, id, c.in_ok-check_room.ensures c.args.strings.now)
