@@ -4,6 +4,8 @@ ghost use Rattle.inspect.specs.Faults.{fixup_said};
 ghost use Rattle.inspect.specs.declared.error.FixupError.TheVariants.{Table};
 
 use layout::BtfError;
+use std::error::Error;
+use std::fmt;
 
 #[derive(Clone, Copy, Debug, PartialEq, Eq)]
 pub enum FixupError {
@@ -35,8 +37,8 @@ pub enum FixupError {
 impl From<BtfError> for FixupError {
     ghost from_gives = { λ fault e. e ≡ Table fault };
 
-    fn from(fault: BtfError) -> FixupError {
-        FixupError::Table(fault)
+    fn from(refused: BtfError) -> FixupError {
+        FixupError::Table(refused)
     }
 }
 
@@ -92,3 +94,28 @@ impl FixupError {
         }
     }
 }
+
+// As the table's refusals are printed: `refused 13: id 7, at id 5, element 0`.
+impl fmt::Display for FixupError {
+    fn fmt<W: fmt::Write>(&self, f: &mut fmt::Formatter<W>) -> fmt::Result {
+        if let FixupError::Table(fault) = self {
+            return write!(f, "{fault}");
+        }
+        write!(f, "refused {}:", self.number())?;
+        if let FixupError::InvalidDatasec { type_id, .. } = self {
+            write!(f, " id {type_id},")?;
+        }
+        if let FixupError::NumberTooLarge { number, .. } = self {
+            write!(f, " number {number},")?;
+        }
+        if let Some(section) = self.declaration() {
+            write!(f, " at id {section}")?;
+        }
+        if let Some(entry) = self.element() {
+            write!(f, ", element {entry}")?;
+        }
+        Ok(())
+    }
+}
+
+impl Error for FixupError {}
