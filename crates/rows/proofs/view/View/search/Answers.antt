@@ -1,7 +1,7 @@
 use Rattle.std.proofs.Common.{refl}
 use Rattle.std.proofs.lemmas.Result.{err_from_is_err_and}
 use Rattle.rows.proofs.Finds.{find_none, find_stops, find_ends, find_onward}
-use Rattle.rows.proofs.view.View.id_by_type_name_kind.Goals as goal
+use Rattle.rows.proofs.view.View.search.Goals as goal
 
 pub loop-at-init : goal.loop-at-init
 loop-at-init c = record { on = refl }
