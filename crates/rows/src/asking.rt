@@ -1,11 +1,12 @@
 // The questions that are answered by one declaration or by a search.
-ghost use Rattle.std.specs.Prelude.{◌≡◌, ℕ, take, drop};
+ghost use Rattle.std.specs.Prelude.{◌≡◌, ℕ, ◌≤◌, length, take, drop};
 ghost use Rattle.layout.specs.Info.{elements_of};
 ghost use Rattle.layout.specs.Refusals.{told, Answer};
 ghost use Rattle.meaning.specs.Questions.{string_at, type_by_id, element_at, element_of, type_name, find_here, find_from};
 ghost use Rattle.rows.specs.Rows.{decl_of, row_at};
-ghost use Rattle.rows.specs.Views.{decls};
+ghost use Rattle.rows.specs.Views.{decls, few_decls};
 ghost use Rattle.rows.specs.Walks.{verdict};
+ghost use Rattle.meaning.specs.Table.{most_decls};
 
 use crate::row::TypeRow;
 use crate::text::{same_bytes, string_from};
@@ -81,6 +82,13 @@ impl<'t, 's> View<'t, 's> {
 
     // The lowest id of a kind and name.
     pub fn id_by_type_name_kind(&self, name: &[u8], kind: BtfKind) -> Result<u32, BtfError>
+        ensures { told (λ n. n) result ≡ find_from (few_decls self.now) self.now.strings.now name.now kind 0 }
+    {
+        self.limited().search(name, kind)
+    }
+
+    fn search(&self, name: &[u8], kind: BtfKind) -> Result<u32, BtfError>
+        requires { length self.now.rows.now ≤ most_decls }
         ensures { told (λ n. n) result ≡ find_from (decls self.now) self.now.strings.now name.now kind 0 }
     {
         for (at, row) in self.rows.iter().enumerate() {

@@ -1,5 +1,5 @@
 // A table as it is asked.
-ghost use Rattle.std.specs.Prelude.{◌≤◌, length};
+ghost use Rattle.std.specs.Prelude.{◌≡◌, ◌≤◌, length, take};
 ghost use Rattle.meaning.specs.Table.{most_decls};
 
 use crate::row::TypeRow;
@@ -15,22 +15,19 @@ pub struct View<'t, 's> {
     pub rows: &'t [TypeRow],
     pub elements: &'t [Element],
     pub strings: &'s [u8],
-    ghost few: { length rows.now ≤ most_decls },
 }
 
 impl<'t, 's> View<'t, 's> {
-    ghost use Rattle.std.specs.Prelude.{◌≡◌, take};
-
-    // A view of as many rows as a table may have, for a caller that knows no bound on them.
-    pub fn new(rows: &'t [TypeRow], elements: &'t [Element], strings: &'s [u8]) -> View<'t, 's>
-        ensures rows { result.rows.now ≡ take most_decls rows.now }
-        ensures elements { result.elements.now ≡ elements.now }
-        ensures strings { result.strings.now ≡ strings.now }
+    // The view with as many rows as a table may have, of which each place is an id.
+    pub fn limited(&self) -> View<'t, 's>
+        ensures rows { result.rows.now ≡ take most_decls self.now.rows.now }
+        ensures few { length result.rows.now ≤ most_decls }
+        ensures elements { result.elements.now ≡ self.now.elements.now }
+        ensures strings { result.strings.now ≡ self.now.strings.now }
     {
         View {
-            rows: rows.get(..MOST_DECLARATIONS).unwrap_or(rows),
-            elements,
-            strings,
+            rows: self.rows.get(..MOST_DECLARATIONS).unwrap_or(self.rows),
+            ..*self
         }
     }
 }

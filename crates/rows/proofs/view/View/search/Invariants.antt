@@ -1,7 +1,7 @@
 use Rattle.meaning.specs.Questions.{find_from}
 use Rattle.rows.specs.Views.{decls}
 use Rattle.rows.proofs.Finds.{Searched}
-use Rattle.rows.proofs.view.View.id_by_type_name_kind.Given as goal
+use Rattle.rows.proofs.view.View.search.Given as goal
 
 abbrev pub invariant-loop-at : goal.invariant-loop-at
 invariant-loop-at l = Searched l.self l.name l.kind (find_from (decls l.self) l.self.strings.now l.name l.kind 0) l.at

@@ -1,6 +1,6 @@
 use Rattle.std.proofs.lemmas.Result.{err_from_is_err_and}
 use Rattle.rows.proofs.Finds.{find_stops, find_ends, find_onward}
-use Rattle.rows.proofs.view.View.id_by_type_name_kind.Goals as goal
+use Rattle.rows.proofs.view.View.search.Goals as goal
 
 pub returns-in_err-is_named : goal.returns-in_err-is_named
 returns-in_err-is_named c =
