@@ -105,7 +105,8 @@ fn add_ten(
     })
 }
 
-// Adds a declaration for each label; a chain begins at an Int. The string area comes beside the table, as with each of its calls.
+// Adds a declaration for each label; a chain begins at an Int. The string area comes beside the table, as with each
+// of its calls.
 pub fn fill(table: &mut Btf, names: &mut [u8], labels: &[Label]) -> Result<(), BtfError> {
     let mut before = Before {
         record: 0,
