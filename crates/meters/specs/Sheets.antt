@@ -32,3 +32,7 @@ Fields line name order kernel =
 abbrev pub order_word : Endian → List ℕ
 order_word Little = codes "little"
 order_word Big = codes "big"
+
+-- the word is no byte order's
+abbrev pub NamesNoOrder : List ℕ → Type 0
+NamesNoOrder word = (e : Endian) → word ≢ order_word e

@@ -40,7 +40,8 @@ impl Given {
     }
 }
 
-// The place of the file with these bytes.
+// The place of the file with these bytes. There are two files at most, one for each byte order, so a map would find
+// none of them sooner.
 fn place_of_file(files: &[Vec<u8>], bytes: &[u8]) -> Option<usize>
     ensures { MatchOption result (Absent (map vec_items files.now) bytes.now) (λ i. Stands (map vec_items files.now) i bytes.now) }
 {

@@ -18,7 +18,8 @@ const ARRAY_MAP: u32 = 2;
 // Tags the whole of what a DeclTag names.
 const WHOLE: i32 = -1;
 
-// The declarations that `declare_named` adds are made with the name 0, which it replaces.
+// The name of what has none. What `declare_named` adds is made with it too, and gets its name there: a closure from
+// a name to a declaration would need a `requires`.
 const UNNAMED: u32 = 0;
 
 #[derive(Clone, Copy)]

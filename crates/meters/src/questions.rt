@@ -35,12 +35,8 @@ impl Questions<'_> {
     }
 
     fn sizes(&self, id: u32) -> Result<Sizes, BtfError> {
-        let (narrow, links) = self
-            .table
-            .type_size(self.names, id, PointerWidth::Four)?;
-        let (wide, _) = self
-            .table
-            .type_size(self.names, id, PointerWidth::Eight)?;
+        let (narrow, links) = self.table.type_size(self.names, id, PointerWidth::Four)?;
+        let (wide, _) = self.table.type_size(self.names, id, PointerWidth::Eight)?;
         Ok(Sizes {
             narrow,
             wide,
@@ -72,12 +68,19 @@ impl Questions<'_> {
 
     fn ask_id(&self, kind: BtfKind, name: &str) -> io::Result<()> {
         print!(self.rt; "id of {} {name}: ", kind_word(kind))?;
-        self.answer(self.table.id_by_type_name_kind(self.names, name.as_bytes(), kind))
+        self.answer(
+            self.table
+                .id_by_type_name_kind(self.names, name.as_bytes(), kind),
+        )
     }
 
     fn ask_element(&self, id: u32, index: u32) -> io::Result<()> {
         print!(self.rt; "element {index} of id {id}: ")?;
-        self.answer(self.table.element_at(self.names, id, index).map(ShownElement))
+        self.answer(
+            self.table
+                .element_at(self.names, id, index)
+                .map(ShownElement),
+        )
     }
 
     fn ask_names(&self, meter: &Meter) -> io::Result<()> {

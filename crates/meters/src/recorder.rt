@@ -1,4 +1,4 @@
-// Adds names, elements' names and declarations to a table, and prints each.
+// Adds names and declarations to a table, and prints each.
 use crate::fault::Fault;
 use crate::shown::Heading;
 use elements::{BtfEnum, BtfEnum64, BtfMember, BtfParam, ElementType};
@@ -23,16 +23,18 @@ impl Recorder<'_, '_> {
         Ok(at)
     }
 
-    // A value of an enum, a name of 64 bits, a parameter and a member, each with its name added.
+    // A value of an Enum, with its name added.
     pub fn variant(&mut self, text: &str, value: u32) -> Result<BtfEnum, Fault> {
         let name_offset = self.name(text)?;
         Ok(BtfEnum { name_offset, value })
     }
 
+    // A value of an Enum64, with its name added.
     pub fn variant64(&mut self, text: &str, value: u64) -> Result<BtfEnum64, Fault> {
         Ok(BtfEnum64::new(self.name(text)?, value))
     }
 
+    // A parameter of a FuncProto, with its name added.
     pub fn param(&mut self, text: &str, btf_type: u32) -> Result<BtfParam, Fault> {
         let name_offset = self.name(text)?;
         Ok(BtfParam {
@@ -41,6 +43,7 @@ impl Recorder<'_, '_> {
         })
     }
 
+    // A member of a Struct or a Union, with its name added.
     pub fn member(&mut self, text: &str, btf_type: u32, offset: u32) -> Result<BtfMember, Fault> {
         let name_offset = self.name(text)?;
         Ok(BtfMember {

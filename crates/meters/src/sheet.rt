@@ -1,6 +1,6 @@
 // A swap sheet: how it is read, and cut into lines and fields.
-ghost use Rattle.std.specs.Prelude.{◌≡◌, ℕ, ◌<◌, ◌≤◌, length, vec_len, IfOk, MatchOption};
-ghost use Rattle.meters.specs.Sheets.{Split, Lacks, AllPrintable, Named, Fields, order_word};
+ghost use Rattle.std.specs.Prelude.{◌≡◌, ℕ, ◌<◌, ◌≤◌, length, vec_len, IfOk, MatchOption, MatchResult};
+ghost use Rattle.meters.specs.Sheets.{Split, Lacks, AllPrintable, Named, Fields, order_word, NamesNoOrder};
 
 use crate::files::Endian;
 use bstr::{ByteSlice, LinesWithTerminator};
@@ -121,14 +121,16 @@ impl<'a> TryFrom<&'a [u8]> for Row<'a> {
 impl TryFrom<&[u8]> for Endian {
     type Error = Malformed;
 
-    ghost try_from_gives = { λ word result. IfOk result (λ endian. word.now ≡ order_word endian) };
+    ghost try_from_gives = { λ word result. MatchResult result (λ endian. word.now ≡ order_word endian) (λ _. NamesNoOrder word.now) };
 
     // The byte order that a row names.
     fn try_from(word: &[u8]) -> Result<Endian, Malformed> {
-        match std::str::from_utf8(word) {
-            Ok("little") => Ok(Endian::Little),
-            Ok("big") => Ok(Endian::Big),
-            _ => Err(Malformed::UnknownOrder),
+        if word == b"little".as_slice() {
+            Ok(Endian::Little)
+        } else if word == b"big".as_slice() {
+            Ok(Endian::Big)
+        } else {
+            Err(Malformed::UnknownOrder)
         }
     }
 }

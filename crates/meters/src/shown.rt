@@ -50,7 +50,7 @@ impl fmt::Display for Hex<'_> {
     }
 }
 
-// The name of a kind.
+// The name of a kind. It stays a word: a type around a kind, to print by `Display`, would be one more name for it.
 pub fn kind_word(kind: BtfKind) -> &'static str {
     match kind {
         BtfKind::Unknown => "VOID",

@@ -38,9 +38,10 @@ impl<'s> Swaps<'s> {
         }
     }
 
-    fn refuse(&mut self, line: usize, malformed: Malformed) -> io::Result<()> {
+    fn refuse(&mut self, line: usize, malformed: Malformed) -> Result<(), Fault> {
         self.malformed = self.malformed.saturating_add(1);
-        println!(self.rt; "line {line}: malformed, {malformed}")
+        println!(self.rt; "line {line}: malformed, {malformed}")?;
+        Ok(())
     }
 
     // The row of a line, under a name that stood in no earlier row.
@@ -55,7 +56,7 @@ impl<'s> Swaps<'s> {
     fn take_line(&mut self, line: usize, text: &[u8]) -> Result<(), Fault> {
         match self.read_row(text) {
             Ok(row) => self.take_row(line, &row),
-            Err(malformed) => Ok(self.refuse(line, malformed)?),
+            Err(malformed) => self.refuse(line, malformed),
         }
     }
 
@@ -65,7 +66,7 @@ impl<'s> Swaps<'s> {
         self.lines.insert(name, line)?;
         match Endian::try_from(row.order) {
             Ok(endian) => self.give_file(line, row, endian),
-            Err(malformed) => Ok(self.refuse(line, malformed)?),
+            Err(malformed) => self.refuse(line, malformed),
         }
     }
 

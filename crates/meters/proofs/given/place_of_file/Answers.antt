@@ -7,13 +7,14 @@ use Rattle.meters.specs.Numbering.{Absent, Stands}
 use Rattle.meters.proofs.given.place_of_file.Goals as goal
 
 placed : (files : List (List ℕ)) (bytes : List ℕ) (r : Option ℕ)
-  → MatchOption r (AllWithin (λ file. file ≢ bytes) files 0 (length files)) (λ i. (i < length files) × HoldsAt (λ file. file ≡ bytes) files i × AllWithin (λ file. file ≢ bytes) files 0 i)
-  → MatchOption r (Absent files bytes) (λ i. Stands files i bytes)
+    → MatchOption r (AllWithin (λ file. file ≢ bytes) files 0 (length files)) (λ i. (i < length files) × HoldsAt (λ file. file ≡ bytes) files i × AllWithin (λ file. file ≢ bytes) files 0 i)
+    → MatchOption r (Absent files bytes) (λ i. Stands files i bytes)
 placed files bytes None none = λ k below. none k [] (omega arith) below
 placed files bytes (Some i) found = (found.0, found.1 [])
 
 pub returns : goal.returns
 returns c =
-    let bytes = c.args.bytes.now in
-    let files = YieldsList-from_map_by _ (λ file. file.now) vec_items (YieldsList-from_slice c.args.files.now cc) c.map.ensures.closure (λ x r q k. search (rules, tests)) in
-    placed _ bytes _ (IsFirst-from_position _ _ _ (λ file. file ≡ bytes) (λ file. file ≢ bytes) c.position.ensures.ran files (λ x q k. search (rules, tests)) (λ x q k. search (rules, tests)))
+    placed _ c.args.bytes.now _
+    (IsFirst-from_position _ _ _ (λ file. file ≡ c.args.bytes.now) (λ file. file ≢ c.args.bytes.now) c.position.ensures.ran
+    (YieldsList-from_map_by _ (λ file. file.now) vec_items (YieldsList-from_slice c.args.files.now cc) c.map.ensures.closure (λ x r q k. search (rules, tests)))
+    (λ x q k. search (rules, tests)) (λ x q k. search (rules, tests)))
