@@ -4,14 +4,24 @@ use crate::calls::Many::*;
 use crate::calls::Question::*;
 use crate::calls::Said::*;
 use crate::calls::*;
+use crate::player::*;
+use elements::BtfElement::{Entry, Member};
 use elements::{BtfEnum, BtfEnum64, BtfMember, BtfParam, DataSecEntry, Element, ElementType};
 use layout::BtfKind::*;
+use layout::BtfType;
 use std::process::Abort;
 use std::test::Fail;
 use table::{Btf, TypeRow};
 
+const FULL_STRUCT: BtfType = BtfType {
+    name_offset: 0,
+    info: 0x0400ffff,
+    size_or_type: 9,
+    extra: [0, 0, 0],
+};
+
 // Where two faults are present, the kind comes before the flag, that before the linkage, all before the count.
-const FAULTS: &[(Call, Said)] = &[
+const FAULTS: &[Step] = &[
     (AddRaw(0, false, 0), No(2, None, None, Some(0))),
     (AddRaw(20, false, 0), No(2, None, None, Some(20))),
     (
@@ -41,12 +51,12 @@ const FAULTS: &[(Call, Said)] = &[
     ),
     (AddMany(Structs(1, 65536)), No(4, None, None, Some(65536))),
     (AddMany(Structs(1, 65535)), Number(1)),
-    (Ask(TypeById(1)), Head([0, 0x0400ffff, 9, 0, 0, 0])),
+    (Ask(TypeById(1)), Head(FULL_STRUCT)),
     (AddRaw(12, false, 3), Number(2)),
 ];
 
 // Over room for two declarations more and two elements.
-const FULL: &[(Call, Said)] = &[
+const FULL: &[Step] = &[
     (AddMany(Structs(1, 3)), No(16, None, None, Some(1))),
     (AddMany(Structs(1, 2)), Number(1)),
     (AddMany(Structs(1, 1)), No(16, None, None, Some(1))),
@@ -59,12 +69,12 @@ const FULL: &[(Call, Said)] = &[
 ];
 
 // A Func's low bits are its linkage, and no count of elements.
-const ELEMENTS: &[(Call, Said)] = &[
+const ELEMENTS: &[Step] = &[
     (AddMany(Structs(1, 2)), Number(1)),
     (Add(Int, 0, 4), Number(2)),
     (AddRaw(12, false, 1), Number(3)),
     (AddMany(Entries(15, false, 1)), Number(4)),
-    (Ask(ElementAt(1, 1)), Member([1, 2, 3])),
+    (Ask(ElementAt(1, 1)), Element(Member(MEMBER))),
     (Ask(ElementAt(1, 2)), No(18, Some(1), Some(2), None)),
     (
         Ask(ElementAt(1, u32::MAX)),
@@ -73,7 +83,7 @@ const ELEMENTS: &[(Call, Said)] = &[
     (Ask(ElementAt(2, 0)), No(18, Some(2), Some(0), None)),
     (Ask(ElementAt(3, 0)), No(18, Some(3), Some(0), None)),
     (Ask(ElementAt(0, 0)), No(18, Some(0), Some(0), None)),
-    (Ask(ElementAt(4, 0)), Entry([4, 5, 6])),
+    (Ask(ElementAt(4, 0)), Element(Entry(ENTRY))),
     (Ask(ElementAt(4, 1)), No(18, Some(4), Some(1), None)),
     (Ask(ElementAt(5, 0)), No(7, None, None, Some(5))),
     (Ask(TypeById(5)), No(7, None, None, Some(5))),
@@ -82,9 +92,9 @@ const ELEMENTS: &[(Call, Said)] = &[
 
 #[test]
 fn declarations_are_taken_or_refused(rt: HostRuntime) -> Result<(), Fail> {
-    play(&rt, rt.alloc(), Rooms(8, 65535, 1), 0xee, FAULTS)?;
-    play(&rt, rt.alloc(), Rooms(3, 2, 1), 0xee, FULL)?;
-    play(&rt, rt.alloc(), ROOMY, 0xee, ELEMENTS)
+    play(&rt, Rooms(8, 65535, 1), 0xee, FAULTS)?;
+    play(&rt, Rooms(3, 2, 1), 0xee, FULL)?;
+    play(&rt, ROOMY, 0xee, ELEMENTS)
 }
 
 // By kind, from Int on: what is kept where every word is given.
@@ -115,35 +125,44 @@ fn heads_keep_what_their_kind_has(rt: HostRuntime) {
     let mut types = [TypeRow::empty(); 20];
     let mut strings = [0];
     let mut table = Btf::new(&mut types, &mut [], &mut strings);
-    heads(&rt, &mut table, &strings);
-}
-
-fn heads(rt: &impl Abort, table: &mut Btf, strings: &[u8]) {
+    let mut player = Player::new(&rt, &mut table, &mut strings);
     for (head, kind) in HEADS.iter().zip(1..20u32) {
-        let said = number(table.add_type(strings, &raw(kind, false, 3), NO_MEMBERS));
-        assert_eq!(rt; said, Number(kind as u64));
-        assert_eq!(rt; ask(table, strings, &TypeById(kind)), Head(*head));
+        let [name_offset, info, size_or_type, a, b, c] = *head;
+        let head = BtfType {
+            name_offset,
+            info,
+            size_or_type,
+            extra: [a, b, c],
+        };
+        assert_eq!(rt;
+            player.add(&raw(kind, false, 3), NO_MEMBERS),
+            Number(u64::from(kind))
+        );
+        assert_eq!(rt; player.ask(&TypeById(kind)), Head(head));
     }
 }
+
+// The kinds that take a flag.
+const FLAGGED: &[u32] = &[4, 5, 6, 7, 19];
 
 // The kinds without a linkage, at which one is passed over.
 const UNLINKED: &[u32] = &[1, 2, 3, 4, 5, 6, 7, 8, 9, 10, 11, 13, 15, 16, 17, 18, 19];
 
 // At the kinds that are not in the list the refusal has a number and a value, where none is given the kind.
-fn by_kind<E: ElementType>(
-    rt: &impl Abort,
-    table: &mut Btf,
+fn by_kind<R: Abort + AllocGlobal + Drop, E: ElementType>(
+    player: &mut Player<R>,
     (flag, linkage): (bool, u32),
     tail: &[E],
     taken: &[u32],
     (code, value): (u8, Option<u64>),
 ) {
+    let rt = player.rt;
     for kind in 1..20 {
-        let said = number(table.add_type(&[0], &raw(kind, flag, linkage), tail));
+        let said = player.add(&raw(kind, flag, linkage), tail);
         if taken.contains(&kind) {
             assert!(rt; matches!(said, Number(_)));
         } else {
-            let value = value.unwrap_or(kind as u64);
+            let value = value.unwrap_or(u64::from(kind));
             assert_eq!(rt; said, No(code, None, None, Some(value)));
         }
     }
@@ -156,50 +175,31 @@ fn kinds_take_what_they_have(rt: HostRuntime) {
     let mut elements = [Element::empty(); 8];
     let mut strings = [0];
     let mut table = Btf::new(&mut types, &mut elements, &mut strings);
+    let player = &mut Player::new(&rt, &mut table, &mut strings);
     let value = BtfEnum {
         name_offset: 0,
         value: 1,
     };
-    by_kind(&rt, &mut table, (false, 0), &[value], &[6], (2, None));
     let param = BtfParam {
         name_offset: 0,
         btf_type: 1,
     };
-    by_kind(&rt, &mut table, (false, 0), &[param], &[13], (2, None));
-    by_kind(
-        &rt,
-        &mut table,
-        (false, 0),
-        &[BtfEnum64::new(0, 1)],
-        &[19],
-        (2, None),
-    );
+    let value64 = BtfEnum64::new(0, 1);
     let member = BtfMember {
         name_offset: 0,
         btf_type: 1,
         offset: 0,
     };
-    by_kind(&rt, &mut table, (false, 0), &[member], &[4, 5], (2, None));
     let entry = DataSecEntry {
         btf_type: 1,
         offset: 0,
         size: 4,
     };
-    by_kind(&rt, &mut table, (false, 0), &[entry], &[15], (2, None));
-    by_kind(
-        &rt,
-        &mut table,
-        (true, 0),
-        NO_MEMBERS,
-        &[4, 5, 6, 7, 19],
-        (3, Some(1)),
-    );
-    by_kind(
-        &rt,
-        &mut table,
-        (false, 4),
-        NO_MEMBERS,
-        UNLINKED,
-        (3, Some(4)),
-    );
+    by_kind(player, (false, 0), &[value], &[6], (2, None));
+    by_kind(player, (false, 0), &[param], &[13], (2, None));
+    by_kind(player, (false, 0), &[value64], &[19], (2, None));
+    by_kind(player, (false, 0), &[member], &[4, 5], (2, None));
+    by_kind(player, (false, 0), &[entry], &[15], (2, None));
+    by_kind(player, (true, 0), NO_MEMBERS, FLAGGED, (3, Some(1)));
+    by_kind(player, (false, 4), NO_MEMBERS, UNLINKED, (3, Some(4)));
 }

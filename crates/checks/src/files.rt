@@ -3,54 +3,54 @@ use crate::calls::Call::*;
 use crate::calls::Question::*;
 use crate::calls::Said::*;
 use crate::calls::*;
+use crate::player::*;
 use declare::*;
-use elements::{BtfEnum, BtfEnum64, BtfMember, BtfParam, DataSecEntry, Element};
-use layout::Linkage;
+use elements::BtfElement::*;
+use elements::{BtfEnum, BtfEnum64, BtfMember, BtfParam, DataSecEntry, ElementType};
+use layout::{Declaration, Linkage};
 use order::{BigEndian, ByteOrder, LittleEndian};
 use std::alloc::{AllocError, Global};
 use std::process::Abort;
 use std::test::Fail;
 use table::{Btf, TypeRow};
 
-// Into a buffer of `room` bytes 0xaa: all of the file and nothing more, or the buffer stays as it is.
-fn fits<O: ByteOrder>(
-    rt: &impl Abort,
-    heap: Global,
-    table: &Btf,
-    strings: &[u8],
-    order: &O,
-    file: &[u8],
-    room: usize,
-) -> Result<(), Fail> {
-    let mut out = vec![in heap; 0xaa; room]?;
-    let said = length(table.to_bytes(strings, order, &mut out));
-    let mut end = file.len();
-    if room < end {
-        assert_eq!(rt; said, No(17, None, None, Some(end as u64)));
-        end = 0;
-    } else {
-        assert_eq!(rt; said, Number(end as u64));
-        assert!(rt; out.starts_with(file));
+impl<R: Abort + AllocGlobal + Drop> Player<'_, '_, R> {
+    // Into a buffer of `room` bytes 0xaa: all of the file and nothing more, or the buffer stays as it is.
+    fn fits<O: ByteOrder>(&self, order: &O, file: &[u8], room: usize) -> Result<(), Fail> {
+        let rt = self.rt;
+        let mut out = vec![in rt.alloc(); 0xaa; room]?;
+        let said = Said::from(self.table.to_bytes(self.strings, order, &mut out));
+        let needed = file.len();
+        let written = if room < needed {
+            assert_eq!(rt; said, No(17, None, None, Some(needed as u64)));
+            0
+        } else {
+            assert_eq!(rt; said, Number(needed as u64));
+            assert!(rt; out.starts_with(file));
+            needed
+        };
+        assert!(rt; out.iter().skip(written).all(|byte| *byte == 0xaa));
+        Ok(())
     }
-    for byte in out.iter().skip(end) {
-        assert_eq!(rt; *byte, 0xaa);
-    }
-    Ok(())
-}
 
-fn written<O: ByteOrder>(
-    rt: &impl Abort,
-    heap: Global,
-    table: &Btf,
-    strings: &[u8],
-    order: &O,
-    file: &[u8],
-) -> Result<(), Fail> {
-    let end = file.len();
-    fits(rt, heap, table, strings, order, file, 0)?;
-    fits(rt, heap, table, strings, order, file, end.saturating_sub(1))?;
-    fits(rt, heap, table, strings, order, file, end)?;
-    fits(rt, heap, table, strings, order, file, end.saturating_add(3))
+    fn written<O: ByteOrder>(&self, order: &O, file: &[u8]) -> Result<(), Fail> {
+        let length = file.len();
+        for room in [
+            0,
+            length.saturating_sub(1),
+            length,
+            length.saturating_add(3),
+        ] {
+            self.fits(order, file, room)?;
+        }
+        Ok(())
+    }
+
+    // Adds a declaration, whose id is to be the next.
+    fn add_next<E: ElementType>(&mut self, declaration: &Declaration, elements: &[E], id: u64) {
+        let rt = self.rt;
+        assert_eq!(rt; self.add(declaration, elements), Number(id));
+    }
 }
 
 const NEW_LITTLE: &[u8] = &[
@@ -71,22 +71,20 @@ const INT_BIG: &[u8] = &[
     0, 0, 0, 0, 0, 0, 4, 1, 0, 0, 0x20, 0, b'i', b'n', b't', 0,
 ];
 
+const INT: &[Step] = &[(AddString(b"int"), Number(1))];
+
 #[test]
 fn small_files(rt: HostRuntime) -> Result<(), Fail> {
-    let heap = rt.alloc();
     let mut types = [TypeRow::empty(); 2];
     let mut strings = [0xee; 6];
     let mut table = Btf::new(&mut types, &mut [], &mut strings);
-    written(&rt, heap, &table, &strings, &LittleEndian, NEW_LITTLE)?;
-    written(&rt, heap, &table, &strings, &BigEndian, NEW_BIG)?;
-    assert_eq!(rt; number(table.add_string(&mut strings, b"int")), Number(1));
-    let int = Int::new(1, 4, Int::SIGNED, 0);
-    assert_eq!(rt;
-        number(table.add_type(&strings, &int, NO_MEMBERS)),
-        Number(1)
-    );
-    written(&rt, heap, &table, &strings, &LittleEndian, INT_LITTLE)?;
-    written(&rt, heap, &table, &strings, &BigEndian, INT_BIG)
+    let mut player = Player::new(&rt, &mut table, &mut strings);
+    player.written(&LittleEndian, NEW_LITTLE)?;
+    player.written(&BigEndian, NEW_BIG)?;
+    player.play(INT)?;
+    player.add_next(&Int::new(1, 4, Int::SIGNED, 0), NO_MEMBERS, 1);
+    player.written(&LittleEndian, INT_LITTLE)?;
+    player.written(&BigEndian, INT_BIG)
 }
 
 // The words behind the first four bytes of the file with all kinds.
@@ -113,7 +111,7 @@ const WORDS: &[u32] = &[
     5, 0x13000001, 8, 1, 0x55667788, 0x11223344, // 19: Enum64
 ];
 
-fn add_plain(rt: &impl Abort, table: &mut Btf, strings: &[u8]) {
+fn add_plain<R: Abort + AllocGlobal + Drop>(player: &mut Player<R>) {
     let made = [
         Int::new(1, 4, Int::SIGNED, 0),
         Ptr::new(0, 1),
@@ -130,116 +128,97 @@ fn add_plain(rt: &impl Abort, table: &mut Btf, strings: &[u8]) {
         TypeTag::new(5, 2),
     ];
     for (declaration, id) in made.iter().zip(1..14u64) {
-        assert_eq!(rt;
-            number(table.add_type(strings, declaration, NO_MEMBERS)),
-            Number(id)
-        );
+        player.add_next(declaration, NO_MEMBERS, id);
     }
 }
 
-const MEMBERS: [BtfMember; 2] = [
-    BtfMember {
-        name_offset: 1,
-        btf_type: 1,
-        offset: 0x03000000,
-    },
-    BtfMember {
-        name_offset: 0,
-        btf_type: 2,
-        offset: 32,
-    },
-];
+const FIRST_MEMBER: BtfMember = BtfMember {
+    name_offset: 1,
+    btf_type: 1,
+    offset: 0x03000000,
+};
 
-const VARIANTS: [BtfEnum; 2] = [
-    BtfEnum {
-        name_offset: 5,
-        value: u32::MAX,
-    },
-    BtfEnum {
-        name_offset: 0,
-        value: 7,
-    },
-];
+const SECOND_MEMBER: BtfMember = BtfMember {
+    name_offset: 0,
+    btf_type: 2,
+    offset: 32,
+};
 
-const PARAMS: [BtfParam; 2] = [
-    BtfParam {
-        name_offset: 1,
-        btf_type: 2,
-    },
-    BtfParam {
-        name_offset: 0,
-        btf_type: 0,
-    },
-];
+const IN_UNION: BtfMember = BtfMember {
+    name_offset: 5,
+    btf_type: 2,
+    offset: 0,
+};
 
-fn add_with_elements(rt: &impl Abort, table: &mut Btf, strings: &[u8]) {
-    let in_union = [BtfMember {
-        name_offset: 5,
-        btf_type: 2,
-        offset: 0,
-    }];
-    let entries = [DataSecEntry {
-        btf_type: 10,
-        offset: 4,
-        size: 12,
-    }];
+const FIRST_VARIANT: BtfEnum = BtfEnum {
+    name_offset: 5,
+    value: u32::MAX,
+};
+
+const SECOND_VARIANT: BtfEnum = BtfEnum {
+    name_offset: 0,
+    value: 7,
+};
+
+const FIRST_PARAM: BtfParam = BtfParam {
+    name_offset: 1,
+    btf_type: 2,
+};
+
+const LAST_PARAM: BtfParam = BtfParam {
+    name_offset: 0,
+    btf_type: 0,
+};
+
+const IN_SECTION: DataSecEntry = DataSecEntry {
+    btf_type: 10,
+    offset: 4,
+    size: 12,
+};
+
+const WIDE: BtfEnum64 = BtfEnum64 {
+    name_offset: 1,
+    value_low: 0x55667788,
+    value_high: 0x11223344,
+};
+
+fn add_with_elements<R: Abort + AllocGlobal + Drop>(player: &mut Player<R>) {
+    let members = [FIRST_MEMBER, SECOND_MEMBER];
+    let variants = [FIRST_VARIANT, SECOND_VARIANT];
+    let params = [FIRST_PARAM, LAST_PARAM];
     let wide = [BtfEnum64::new(1, 0x1122_3344_5566_7788)];
-    assert_eq!(rt;
-        number(table.add_type(strings, &Struct::new(5, true, 8), &MEMBERS)),
-        Number(14)
-    );
-    assert_eq!(rt;
-        number(table.add_type(strings, &Union::new(0, false, 8), &in_union)),
-        Number(15)
-    );
-    assert_eq!(rt;
-        number(table.add_type(strings, &Enum::new(1, true), &VARIANTS)),
-        Number(16)
-    );
-    assert_eq!(rt;
-        number(table.add_type(strings, &FuncProto::new(1), &PARAMS)),
-        Number(17)
-    );
-    assert_eq!(rt;
-        number(table.add_type(strings, &DataSec::new(5, 16), &entries)),
-        Number(18)
-    );
-    assert_eq!(rt;
-        number(table.add_type(strings, &Enum64::new(5, false), &wide)),
-        Number(19)
-    );
+    player.add_next(&Struct::new(5, true, 8), &members, 14);
+    player.add_next(&Union::new(0, false, 8), &[IN_UNION], 15);
+    player.add_next(&Enum::new(1, true), &variants, 16);
+    player.add_next(&FuncProto::new(1), &params, 17);
+    player.add_next(&DataSec::new(5, 16), &[IN_SECTION], 18);
+    player.add_next(&Enum64::new(5, false), &wide, 19);
 }
 
-const NAMES: &[(Call, Said)] = &[(AddString(b"int"), Number(1)), (AddString(b"x"), Number(5))];
+const NAMES: &[Step] = &[(AddString(b"int"), Number(1)), (AddString(b"x"), Number(5))];
 
-const READ: &[(Call, Said)] = &[
-    (Ask(ElementAt(14, 1)), Member([0, 2, 32])),
-    (Ask(ElementAt(15, 0)), Member([5, 2, 0])),
-    (Ask(ElementAt(16, 0)), Variant([5, u32::MAX])),
-    (Ask(ElementAt(17, 0)), Param([1, 2])),
-    (Ask(ElementAt(18, 0)), Entry([10, 4, 12])),
-    (
-        Ask(ElementAt(19, 0)),
-        Variant64([1, 0x55667788, 0x11223344]),
-    ),
+const READ: &[Step] = &[
+    (Ask(ElementAt(14, 1)), Element(Member(SECOND_MEMBER))),
+    (Ask(ElementAt(15, 0)), Element(Member(IN_UNION))),
+    (Ask(ElementAt(16, 0)), Element(Variant(FIRST_VARIANT))),
+    (Ask(ElementAt(17, 0)), Element(Param(FIRST_PARAM))),
+    (Ask(ElementAt(18, 0)), Element(Entry(IN_SECTION))),
+    (Ask(ElementAt(19, 0)), Element(Variant64(WIDE))),
     (Ask(ElementAt(19, 1)), No(18, Some(19), Some(1), None)),
 ];
 
-fn bytes(heap: Global, is_big: bool) -> Result<Vec<u8>, AllocError> {
+// The file with all kinds, in the byte order that a function writes words in.
+fn bytes<F: Fn(u32) -> [u8; 4]>(
+    heap: Global,
+    magic: [u8; 4],
+    order: F,
+) -> Result<Vec<u8>, AllocError>
+    requires { F.IsAlwaysCallable order }
+{
     let mut bytes = Vec::new(heap);
-    let magic = if is_big {
-        [0xeb, 0x9f, 1, 0]
-    } else {
-        [0x9f, 0xeb, 1, 0]
-    };
     bytes.extend_from_slice(&magic)?;
     for word in WORDS {
-        let word = if is_big {
-            word.to_be_bytes()
-        } else {
-            word.to_le_bytes()
-        };
-        bytes.extend_from_slice(&word)?;
+        bytes.extend_from_slice(&order(*word))?;
     }
     bytes.extend_from_slice(b"\0int\0x\0")?;
     Ok(bytes)
@@ -249,15 +228,16 @@ fn bytes(heap: Global, is_big: bool) -> Result<Vec<u8>, AllocError> {
 fn a_file_with_all_kinds(rt: HostRuntime) -> Result<(), Fail> {
     let heap = rt.alloc();
     let mut types = [TypeRow::empty(); 20];
-    let mut elements = [Element::empty(); 9];
+    let mut elements = [elements::Element::empty(); 9];
     let mut strings = [0xee; 8];
     let mut table = Btf::new(&mut types, &mut elements, &mut strings);
-    play_on(&rt, heap, &mut table, &mut strings, NAMES)?;
-    add_plain(&rt, &mut table, &strings);
-    add_with_elements(&rt, &mut table, &strings);
-    play_on(&rt, heap, &mut table, &mut strings, READ)?;
-    let little = bytes(heap, false)?;
-    written(&rt, heap, &table, &strings, &LittleEndian, &little)?;
-    let big = bytes(heap, true)?;
-    written(&rt, heap, &table, &strings, &BigEndian, &big)
+    let mut player = Player::new(&rt, &mut table, &mut strings);
+    player.play(NAMES)?;
+    add_plain(&mut player);
+    add_with_elements(&mut player);
+    player.play(READ)?;
+    let little = bytes(heap, [0x9f, 0xeb, 1, 0], u32::to_le_bytes)?;
+    player.written(&LittleEndian, &little)?;
+    let big = bytes(heap, [0xeb, 0x9f, 1, 0], u32::to_be_bytes)?;
+    player.written(&BigEndian, &big)
 }

@@ -14,6 +14,8 @@ mod names;
 #[cfg(test)]
 mod nothing;
 #[cfg(test)]
+mod player;
+#[cfg(test)]
 mod sources;
 #[cfg(test)]
 mod walks;

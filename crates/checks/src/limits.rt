@@ -4,11 +4,13 @@ use crate::calls::Many::*;
 use crate::calls::Question::*;
 use crate::calls::Said::*;
 use crate::calls::*;
+use crate::player::*;
+use elements::BtfElement::*;
 use layout::BtfKind::*;
 use std::test::Fail;
 
 // Id 0 counts. Each Const has 12 bytes.
-const DECLARATIONS: &[(Call, Said)] = &[
+const DECLARATIONS: &[Step] = &[
     (AddMany(Consts(1048574)), Number(1048574)),
     (Add(Const, 0, 0), No(16, None, None, Some(0))),
     (
@@ -21,23 +23,23 @@ const DECLARATIONS: &[(Call, Said)] = &[
 ];
 
 // 32 × 65,535 + 32 elements of 12 bytes, and 34 heads of 12 bytes.
-const ELEMENTS: &[(Call, Said)] = &[
+const ELEMENTS: &[Step] = &[
     (AddMany(Structs(32, 65535)), Number(32)),
     (AddMany(Structs(1, 33)), No(16, None, None, Some(1))),
     (AddMany(Structs(1, 32)), Number(33)),
     (AddMany(Structs(1, 1)), No(16, None, None, Some(1))),
     (AddMany(Structs(1, 0)), Number(34)),
-    (Ask(ElementAt(32, 65534)), Member([1, 2, 3])),
+    (Ask(ElementAt(32, 65534)), Element(Member(MEMBER))),
     (
         Ask(ElementAt(32, 65535)),
         No(18, Some(32), Some(65535), None),
     ),
-    (Ask(ElementAt(33, 31)), Member([1, 2, 3])),
+    (Ask(ElementAt(33, 31)), Element(Member(MEMBER))),
     (Encode(0), No(17, None, None, Some(25166257))),
 ];
 
 // A zero byte before the name and one behind it.
-const STRINGS: &[(Call, Said)] = &[
+const STRINGS: &[Step] = &[
     (AddMany(Letters(16777214)), No(16, None, None, Some(2))),
     (AddMany(Letters(16777213)), Number(1)),
     (AddString(b""), No(16, None, None, Some(2))),
@@ -51,7 +53,7 @@ const STRINGS: &[(Call, Said)] = &[
 
 #[test]
 fn areas_are_used_up_to_their_limits(rt: HostRuntime) -> Result<(), Fail> {
-    play(&rt, rt.alloc(), Rooms(1048580, 0, 8), 0xee, DECLARATIONS)?;
-    play(&rt, rt.alloc(), Rooms(40, 2097160, 1), 0xee, ELEMENTS)?;
-    play(&rt, rt.alloc(), Rooms(2, 0, 16777220), 0, STRINGS)
+    play(&rt, Rooms(1048580, 0, 8), 0xee, DECLARATIONS)?;
+    play(&rt, Rooms(40, 2097160, 1), 0xee, ELEMENTS)?;
+    play(&rt, Rooms(2, 0, 16777220), 0, STRINGS)
 }

@@ -3,12 +3,13 @@ use crate::calls::Call::*;
 use crate::calls::Question::*;
 use crate::calls::Said::*;
 use crate::calls::*;
+use crate::player::*;
 use layout::BtfKind::*;
 use std::test::Fail;
 use table::{Btf, TypeRow};
 
 // Over an area of zero bytes, which are no names before they are added.
-const OFFSETS: &[(Call, Said)] = &[
+const OFFSETS: &[Step] = &[
     (Ask(StringAt(0)), Text(*b"........")),
     (Ask(StringAt(1)), No(6, None, None, Some(1))),
     (AddString(b"int"), Number(1)),
@@ -26,7 +27,7 @@ const OFFSETS: &[(Call, Said)] = &[
     (Ask(StringAt(7)), Text(*b"nt......")),
 ];
 
-const ZERO_BYTES: &[(Call, Said)] = &[
+const ZERO_BYTES: &[Step] = &[
     (AddString(b"\0"), No(5, None, None, Some(0))),
     (AddString(b"a\0b"), No(5, None, None, Some(1))),
     (AddString(b"ab\0"), No(5, None, None, Some(2))),
@@ -37,7 +38,7 @@ const ZERO_BYTES: &[(Call, Said)] = &[
 ];
 
 // Over six bytes. A zero byte in a name counts before the want of room.
-const FULL: &[(Call, Said)] = &[
+const FULL: &[Step] = &[
     (AddString(b"short"), No(16, None, None, Some(2))),
     (AddString(b"shor\0"), No(5, None, None, Some(4))),
     (AddString(b"int"), Number(1)),
@@ -49,7 +50,7 @@ const FULL: &[(Call, Said)] = &[
 ];
 
 // Over five bytes, which the name fills.
-const FILLED: &[(Call, Said)] = &[
+const FILLED: &[Step] = &[
     (AddString(b"long"), No(16, None, None, Some(2))),
     (AddString(b"int"), Number(1)),
     (Ask(StringAt(1)), Text(*b"int.....")),
@@ -57,10 +58,10 @@ const FILLED: &[(Call, Said)] = &[
 
 #[test]
 fn names_are_added(rt: HostRuntime) -> Result<(), Fail> {
-    play(&rt, rt.alloc(), ROOMY, 0, OFFSETS)?;
-    play(&rt, rt.alloc(), ROOMY, 0xee, ZERO_BYTES)?;
-    play(&rt, rt.alloc(), Rooms(2, 0, 6), 0xee, FULL)?;
-    play(&rt, rt.alloc(), Rooms(2, 0, 5), 0, FILLED)
+    play(&rt, ROOMY, 0, OFFSETS)?;
+    play(&rt, ROOMY, 0xee, ZERO_BYTES)?;
+    play(&rt, Rooms(2, 0, 6), 0xee, FULL)?;
+    play(&rt, Rooms(2, 0, 5), 0, FILLED)
 }
 
 #[test]
@@ -69,12 +70,15 @@ fn only_the_name_is_written(rt: HostRuntime) {
     let mut strings = [0xee; 8];
     let mut table = Btf::new(&mut types, &mut [], &mut strings);
     assert_eq!(rt; strings, *b"\0\xee\xee\xee\xee\xee\xee\xee");
-    assert_eq!(rt; number(table.add_string(&mut strings, b"int")), Number(1));
+    assert_eq!(rt;
+        Said::from(table.add_string(&mut strings, b"int")),
+        Number(1)
+    );
     assert_eq!(rt; strings, *b"\0int\0\xee\xee\xee");
 }
 
 // Offsets are given before the names that stand there.
-const NAMED: &[(Call, Said)] = &[
+const NAMED: &[Step] = &[
     (Add(Ptr, 5, 0), Number(1)),
     (Add(Typedef, 2, 1), Number(2)),
     (Ask(TypeName(0)), Text(*b"........")),
@@ -89,7 +93,7 @@ const NAMED: &[(Call, Said)] = &[
 ];
 
 // Two Ints of one name, a Ptr whose name is none, and such a Typedef between two others.
-const FOUND: &[(Call, Said)] = &[
+const FOUND: &[Step] = &[
     (AddString(b"int"), Number(1)),
     (Add(Typedef, 1, 0), Number(1)),
     (Add(Ptr, u32::MAX, 0), Number(2)),
@@ -120,6 +124,6 @@ const FOUND: &[(Call, Said)] = &[
 
 #[test]
 fn declarations_have_names(rt: HostRuntime) -> Result<(), Fail> {
-    play(&rt, rt.alloc(), ROOMY, 0, NAMED)?;
-    play(&rt, rt.alloc(), ROOMY, 0, FOUND)
+    play(&rt, ROOMY, 0, NAMED)?;
+    play(&rt, ROOMY, 0, FOUND)
 }

@@ -4,10 +4,11 @@ use crate::calls::Many::*;
 use crate::calls::Question::*;
 use crate::calls::Said::*;
 use crate::calls::*;
+use crate::player::*;
 use elements::Element;
 use layout::BtfKind::*;
+use layout::BtfType;
 use layout::PointerWidth::*;
-use std::alloc::Global;
 use std::process::Abort;
 use std::test::Fail;
 use table::{Btf, TypeRow};
@@ -15,7 +16,7 @@ use table::{Btf, TypeRow};
 const NO_TABLE: Said = No(1, None, None, None);
 
 // Refusal 1 comes before every other.
-const NOTHING: &[(Call, Said)] = &[
+const NOTHING: &[Step] = &[
     (AddString(b"int"), NO_TABLE),
     (AddString(b""), NO_TABLE),
     (AddString(b"\0"), NO_TABLE),
@@ -37,9 +38,16 @@ const NOTHING: &[(Call, Said)] = &[
     (Encode(99), NO_TABLE),
 ];
 
+const VOID: BtfType = BtfType {
+    name_offset: 0,
+    info: 0,
+    size_or_type: 0,
+    extra: [0, 0, 0],
+};
+
 // Areas for id 0 and one zero byte are enough.
-const LEAST: &[(Call, Said)] = &[
-    (Ask(TypeById(0)), Head([0, 0, 0, 0, 0, 0])),
+const LEAST: &[Step] = &[
+    (Ask(TypeById(0)), Head(VOID)),
     (Ask(StringAt(0)), Text(*b"........")),
     (Add(Int, 0, 4), No(16, None, None, Some(0))),
     (AddString(b""), No(16, None, None, Some(2))),
@@ -49,51 +57,46 @@ const LEAST: &[(Call, Said)] = &[
 
 #[test]
 fn a_table_needs_two_areas(rt: HostRuntime) -> Result<(), Fail> {
-    play(&rt, rt.alloc(), Rooms(0, 8, 8), 0xee, NOTHING)?;
-    play(&rt, rt.alloc(), Rooms(8, 8, 0), 0xee, NOTHING)?;
-    play(&rt, rt.alloc(), Rooms(1, 0, 1), 0xee, LEAST)
+    play(&rt, Rooms(0, 8, 8), 0xee, NOTHING)?;
+    play(&rt, Rooms(8, 8, 0), 0xee, NOTHING)?;
+    play(&rt, Rooms(1, 0, 1), 0xee, LEAST)
 }
 
-const BEGUN: &[(Call, Said)] = &[(AddString(b"int"), Number(1)), (Add(Int, 1, 4), Number(1))];
+const BEGUN: &[Step] = &[(AddString(b"int"), Number(1)), (Add(Int, 1, 4), Number(1))];
 
-const JUST_LONG_ENOUGH: &[(Call, Said)] = &[
+const JUST_LONG_ENOUGH: &[Step] = &[
     (Ask(TypeName(1)), Text(*b"int.....")),
     (AddString(b""), No(16, None, None, Some(2))),
     (Add(Ptr, 0, 1), Number(2)),
 ];
 
-const LONGER: &[(Call, Said)] = &[
+const LONGER: &[Step] = &[
     (AddString(b""), Number(5)),
     (Ask(TypeName(1)), Text(*b"int.....")),
 ];
 
-// The same with the first bytes of the string area only.
-fn play_short(
-    rt: &impl Abort,
-    heap: Global,
+// With the first bytes of a string area alone.
+fn play_within<R: Abort + AllocGlobal + Drop>(
+    rt: &R,
     table: &mut Btf,
     strings: &mut [u8],
     room: usize,
-    steps: &[(Call, Said)],
+    steps: &[Step],
 ) -> Result<(), Fail> {
-    let room = strings.len().min(room);
-    play_on(rt, heap, table, &mut strings[0..room], steps)
+    let room = room.min(strings.len());
+    Player::new(rt, table, &mut strings[..room]).play(steps)
 }
 
 // The strings have five bytes.
-fn shorten(rt: &impl Abort, heap: Global, table: &mut Btf, strings: &mut [u8]) -> Result<(), Fail> {
-    play_on(rt, heap, table, strings, BEGUN)?;
-    play_short(rt, heap, table, strings, 4, NOTHING)?;
-    play_short(rt, heap, table, strings, 0, NOTHING)?;
-    play_short(rt, heap, table, strings, 5, JUST_LONG_ENOUGH)?;
-    play_on(rt, heap, table, strings, LONGER)
-}
-
 #[test]
 fn a_table_needs_all_its_strings(rt: HostRuntime) -> Result<(), Fail> {
     let mut types = [TypeRow::empty(); 4];
     let mut elements = [Element::empty(); 4];
     let mut strings = [0xee; 8];
     let mut table = Btf::new(&mut types, &mut elements, &mut strings);
-    shorten(&rt, rt.alloc(), &mut table, &mut strings)
+    play_within(&rt, &mut table, &mut strings, 8, BEGUN)?;
+    play_within(&rt, &mut table, &mut strings, 4, NOTHING)?;
+    play_within(&rt, &mut table, &mut strings, 0, NOTHING)?;
+    play_within(&rt, &mut table, &mut strings, 5, JUST_LONG_ENOUGH)?;
+    play_within(&rt, &mut table, &mut strings, 8, LONGER)
 }

@@ -24,11 +24,7 @@ const Y: bool = true;
 const N: bool = false;
 
 fn answers<F: FeatureSource>(source: &mut F) -> Answers {
-    let mut answers = [false; 8];
-    for (answer, feature) in answers.iter_mut().zip(&FEATURES) {
-        *answer = source.is_supported(*feature);
-    }
-    answers
+    FEATURES.map(|feature| source.is_supported(feature))
 }
 
 // Asks twice, so that an answer that is kept is seen too.

@@ -4,12 +4,13 @@ use crate::calls::Many::*;
 use crate::calls::Question::*;
 use crate::calls::Said::*;
 use crate::calls::*;
+use crate::player::*;
 use layout::BtfKind::*;
 use layout::PointerWidth::*;
 use std::test::Fail;
 
 // Ids are named before they exist.
-const RESOLVED: &[(Call, Said)] = &[
+const RESOLVED: &[Step] = &[
     (Add(Const, 0, 2), Number(1)),
     (Ask(Resolve(0)), Pair(0, 0)),
     (Ask(Resolve(1)), No(7, Some(1), None, Some(2))),
@@ -30,7 +31,7 @@ const RESOLVED: &[(Call, Said)] = &[
 ];
 
 // A walk reads 32 declarations.
-const LONG: &[(Call, Said)] = &[
+const LONG: &[Step] = &[
     (AddMany(Consts(32)), Number(32)),
     (Ask(Resolve(1)), No(10, Some(1), None, None)),
     (Ask(Resolve(2)), No(7, Some(32), None, Some(33))),
@@ -50,11 +51,11 @@ const LONG: &[(Call, Said)] = &[
 
 #[test]
 fn links_are_followed(rt: HostRuntime) -> Result<(), Fail> {
-    play(&rt, rt.alloc(), ROOMY, 0xee, RESOLVED)?;
-    play(&rt, rt.alloc(), ROOMY, 0xee, LONG)
+    play(&rt, ROOMY, 0xee, RESOLVED)?;
+    play(&rt, ROOMY, 0xee, LONG)
 }
 
-const SIZES: &[(Call, Said)] = &[
+const SIZES: &[Step] = &[
     (Add(Ptr, 0, 99), Number(1)),
     (Add(Int, 0, 2), Number(2)),
     (Add(Struct, 0, 12), Number(3)),
@@ -82,7 +83,7 @@ const SIZES: &[(Call, Said)] = &[
     (Ask(Size(12, Eight)), Pair(120, 2)),
 ];
 
-const SIZELESS: &[(Call, Said)] = &[
+const SIZELESS: &[Step] = &[
     (Add(Fwd, 0, 0), Number(1)),
     (Add(FuncProto, 0, 8), Number(2)),
     (Add(Func, 0, 8), Number(3)),
@@ -104,7 +105,7 @@ const SIZELESS: &[(Call, Said)] = &[
 ];
 
 // Counts and sizes go up to 4,294,967,295, which is 65,537 × 65,535.
-const PRODUCTS: &[(Call, Said)] = &[
+const PRODUCTS: &[Step] = &[
     (Add(Int, 0, 1), Number(1)),
     (AddArray(1, 65536), Number(2)),
     (AddArray(2, 65536), Number(3)),
@@ -127,7 +128,7 @@ const PRODUCTS: &[(Call, Said)] = &[
 
 #[test]
 fn sizes_are_found(rt: HostRuntime) -> Result<(), Fail> {
-    play(&rt, rt.alloc(), ROOMY, 0xee, SIZES)?;
-    play(&rt, rt.alloc(), ROOMY, 0xee, SIZELESS)?;
-    play(&rt, rt.alloc(), ROOMY, 0xee, PRODUCTS)
+    play(&rt, ROOMY, 0xee, SIZES)?;
+    play(&rt, ROOMY, 0xee, SIZELESS)?;
+    play(&rt, ROOMY, 0xee, PRODUCTS)
 }
