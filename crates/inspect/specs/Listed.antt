@@ -2,7 +2,7 @@
 use Rattle.std.specs.Prelude.{Bool, map}
 use Rattle.features.specs.declared.BtfFeature.{BtfFeature}
 use Rattle.rows.specs.declared.view.View.{View}
-use Rattle.rows.specs.Views.{decls}
+use Rattle.rows.specs.Views.{decls, few_decls}
 use Rattle.rewriting.specs.Requests.{Row, Request, Job}
 use Rattle.inspect.specs.declared.names.NamedRow.{NamedRow}
 use Rattle.inspect.specs.declared.names.Lists.{Lists}
@@ -20,3 +20,7 @@ request_of lists grants = record {
 
 abbrev pub job_of : View → Request → Job
 job_of view request = record { decls = decls view; bytes = view.strings.now; request = request }
+
+-- the same of as many rows as a table may have
+abbrev pub few_job : View → Request → Job
+few_job view request = record { decls = few_decls view; bytes = view.strings.now; request = request }

@@ -4,7 +4,7 @@ ghost use Rattle.layout.specs.Kinds.{element_words};
 ghost use Rattle.layout.specs.Refusals.{said};
 ghost use Rattle.meaning.specs.Questions.{string_from, decl_kind};
 ghost use Rattle.rows.specs.Rows.{decl_of};
-ghost use Rattle.rows.specs.Views.{decls};
+ghost use Rattle.rows.specs.Views.{few_decls};
 ghost use Rattle.rewriting.specs.Closed.{name_fault, id_fault, ids_fault, own_ids, element_refers, element_fault, elements_fault, open_at, open_fault};
 ghost use Rattle.inspect.specs.Ends.{Ends};
 ghost use Rattle.inspect.specs.Faults.{fault_of};
@@ -140,10 +140,11 @@ impl Check for Closing<'_> {
 
 // The first name that is none, or id that no declaration has, in rising id order.
 pub fn open_fault(view: &View) -> Result<(), BtfError>
-    ensures { fault_of said result ≡ open_fault view.now.strings.now (decls view.now) }
+    ensures { fault_of said result ≡ open_fault view.now.strings.now (few_decls view.now) }
 {
+    let view = view.limited();
     let closing = Closing {
-        view: *view,
+        view,
         ended: matches!(view.strings.last(), Some(0)),
     };
     check_each(&closing, view.rows)

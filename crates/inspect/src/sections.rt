@@ -9,7 +9,7 @@ ghost use Rattle.rewriting.specs.Requests.{section_number};
 ghost use Rattle.rewriting.specs.Rules.{name_at};
 ghost use Rattle.rewriting.specs.Sections.{too_large, needed, symbol_fault, entry_fault, member_fault, each_fault, granted_fault, section_fault, sections_fault};
 ghost use Rattle.inspect.specs.Faults.{fault_of, fixup_said};
-ghost use Rattle.inspect.specs.Listed.{request_of, job_of};
+ghost use Rattle.inspect.specs.Listed.{request_of, job_of, few_job};
 
 use crate::each::{Check, check_each};
 use crate::error::FixupError;
@@ -173,10 +173,11 @@ impl Check for Sections<'_> {
 
 // The first fault of a section, in rising id order.
 pub fn sections_fault(granted: bool, view: &View, lists: &Lists) -> Result<(), FixupError>
-    ensures { (grants : BtfFeature → Bool) → granted ≡ grants DataSec → fault_of fixup_said result ≡ sections_fault (job_of view.now (request_of lists.now grants)) }
+    ensures { (grants : BtfFeature → Bool) → granted ≡ grants DataSec → fault_of fixup_said result ≡ sections_fault (few_job view.now (request_of lists.now grants)) }
 {
+    let view = view.limited();
     let sections = Sections {
-        view: *view,
+        view,
         lists: *lists,
         granted,
     };
