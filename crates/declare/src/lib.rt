@@ -1,5 +1,7 @@
 // The constructors of declarations, by the names that aya-obj has for them. The elements of a declaration
 // are given beside it where it is added.
+// One type for each kind, since its name is the kind: a generic constructor would be called no more plainly, and each
+// body is one call already.
 #![tactic(auto)]
 
 ghost use Rattle.std.specs.Prelude.{◌≡◌, true, false, [], ◌∷◌};

@@ -64,6 +64,7 @@ impl FeatureSet {
         FeatureSet { bits: 0 }
     }
 
+    // A name that says what the number is, which `From<u8>` would not.
     pub fn from_bits(bits: u8) -> FeatureSet
         ensures each { (f : BtfFeature) → has result f ≡ bit_of bits f }
         ensures whole { result.bits ≡ bits }

@@ -1,10 +1,11 @@
 -- Masks and shifts build and read what the arithmetic of the info word and of Int's data says.
-use Rattle.std.proofs.Common.{◌≡◌, ℕ, ◌+◌, ◌*◌, ◌/◌, ◌%◌, ◌^◌, ◌<◌, Bool, true, false, cond, refl, ap, ◌∙◌, arith}
+use Rattle.std.proofs.lemmas.Bool.{cases_cond}
+use Rattle.std.proofs.Common.{◌⊎◌, ◌≡◌, ℕ, ◌+◌, ◌*◌, ◌/◌, ◌%◌, ◌^◌, ◌<◌, Bool, true, false, cond, refl, ap, ◌∙◌, arith}
 use lib.Bits.{bit_or}
 use mir.Val.{bool_byte}
 use Rattle.std.proofs.lemmas.Nat.{or_shifted}
 use Rattle.layout.specs.declared.kind.BtfKind.{BtfKind}
-use Rattle.layout.specs.declared.kind.BtfKind.TheVariants.{Unknown, Int, Ptr, Array, Struct, Union, Enum, Fwd, Typedef, Volatile, Const, Restrict, Func, FuncProto, Var, DataSec, Float, DeclTag, TypeTag, Enum64}
+use Rattle.layout.proofs.Each.{kind_small, kind_at_number}
 use Rattle.layout.specs.Kinds.{kind_number, kind_at}
 use Rattle.layout.specs.Info.{info_word, kind_of, low_of}
 
@@ -22,28 +23,6 @@ flag_word : (flag : Bool) → bool_byte flag * 2 ^ 31 ≡ cond flag (2 ^ 31) 0
 flag_word true = refl
 flag_word false = refl
 
-pub kind_small : (kind : BtfKind) → kind_number kind < 20
-kind_small Unknown = omega arith
-kind_small Int = omega arith
-kind_small Ptr = omega arith
-kind_small Array = omega arith
-kind_small Struct = omega arith
-kind_small Union = omega arith
-kind_small Enum = omega arith
-kind_small Fwd = omega arith
-kind_small Typedef = omega arith
-kind_small Volatile = omega arith
-kind_small Const = omega arith
-kind_small Restrict = omega arith
-kind_small Func = omega arith
-kind_small FuncProto = omega arith
-kind_small Var = omega arith
-kind_small DataSec = omega arith
-kind_small Float = omega arith
-kind_small DeclTag = omega arith
-kind_small TypeTag = omega arith
-kind_small Enum64 = omega arith
-
 pub info_built : (kind : BtfKind) (flag : Bool) (low k : ℕ) → k ≡ kind_number kind → low < 2 ^ 16 →
     bit_or (bit_or (bool_byte flag * 2 ^ 31 % 2 ^ 32) (k * 2 ^ 24 % 2 ^ 32)) low ≡ low + kind_number kind * 2 ^ 24 + cond flag (2 ^ 31) 0
 info_built kind flag low k e r =
@@ -56,35 +35,19 @@ info_built kind flag low k e r =
     fields (bool_byte flag) (kind_number kind) low bit (omega arith) r ∙
     ap (λ n. low + kind_number kind * 2 ^ 24 + n) (flag_word flag)
 
-kind_back : (kind : BtfKind) → kind_at (kind_number kind) ≡ kind
-kind_back Unknown = refl
-kind_back Int = refl
-kind_back Ptr = refl
-kind_back Array = refl
-kind_back Struct = refl
-kind_back Union = refl
-kind_back Enum = refl
-kind_back Fwd = refl
-kind_back Typedef = refl
-kind_back Volatile = refl
-kind_back Const = refl
-kind_back Restrict = refl
-kind_back Func = refl
-kind_back FuncProto = refl
-kind_back Var = refl
-kind_back DataSec = refl
-kind_back Float = refl
-kind_back DeclTag = refl
-kind_back TypeTag = refl
-kind_back Enum64 = refl
+flag_or_none : (flag : Bool) → (cond flag (2 ^ 31) 0 ≡ 2 ^ 31) ⊎ (cond flag (2 ^ 31) 0 ≡ 0)
+flag_or_none flag = cases_cond flag (2 ^ 31) 0 (cond flag (2 ^ 31) 0) refl
 
 -- an info word is read as it was built
-pub kind_built : (kind : BtfKind) (flag : Bool) (low : ℕ) → low < 2 ^ 16 → kind_of (info_word kind flag low) ≡ kind
-kind_built kind flag low h =
-    let small = kind_small kind in
-    let field : (low + kind_number kind * 2 ^ 24 + cond flag (2 ^ 31) 0) / 2 ^ 24 % 2 ^ 5 ≡ kind_number kind =
-    elim flag as (λ f. (low + kind_number kind * 2 ^ 24 + cond f (2 ^ 31) 0) / 2 ^ 24 % 2 ^ 5 ≡ kind_number kind) [ true ↦ omega arith | false ↦ omega arith ] in
-    ap kind_at field ∙ kind_back kind
+module _ (kind : BtfKind) (flag : Bool) (low : ℕ) (small : low < 2 ^ 16) where
+  number_built : info_word kind flag low / 2 ^ 24 % 2 ^ 5 ≡ kind_number kind
+  number_built = omega (arith, kind_small kind, flag_or_none flag)
 
-pub low_built : (kind : BtfKind) (flag : Bool) (low : ℕ) → low < 2 ^ 16 → low_of (info_word kind flag low) ≡ low
-low_built kind flag low h = elim flag as (λ f. low_of (info_word kind f low) ≡ low) [ true ↦ omega arith | false ↦ omega arith ]
+  pub kind_built : kind_of (info_word kind flag low) ≡ kind
+  kind_built = ap kind_at number_built ∙ kind_at_number kind
+
+  pub low_built : low_of (info_word kind flag low) ≡ low
+  low_built = omega (arith, flag_or_none flag)
+
+  pub info_fits : info_word kind flag low < 2 ^ 32
+  info_fits = omega (arith, kind_small kind, flag_or_none flag)

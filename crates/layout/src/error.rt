@@ -1,6 +1,7 @@
 // What a table refuses, under the names of aya-obj where it has them.
-ghost use Rattle.std.specs.Prelude.{◌≡◌};
+ghost use Rattle.std.specs.Prelude.{◌≡◌, Some};
 ghost use Rattle.layout.specs.Refusals.{said};
+ghost use Rattle.layout.specs.Shown.{shown, value_label, part, mark};
 
 use std::error::Error;
 use std::fmt;
@@ -137,7 +138,9 @@ impl BtfError {
 
 impl BtfError {
     // What the refused value is.
-    fn value_label(&self) -> &'static str {
+    fn value_label(&self) -> &'static str
+        ensures { result.now ≡ value_label self.now }
+    {
         match self {
             BtfError::InvalidTypeKind { .. } => "kind",
             BtfError::UnexpectedFlag => "flag",
@@ -154,34 +157,52 @@ impl BtfError {
     }
 }
 
-// A number behind what it is.
-fn write_part<W: fmt::Write>(
-    f: &mut fmt::Formatter<W>,
-    mark: &str,
-    label: &str,
-    number: u64,
-) -> fmt::Result {
-    write!(f, "{mark} {label} {number}")
+// A number behind a mark and what it is, or nothing where there is none.
+#[derive(Clone, Copy)]
+struct Part<'a> {
+    mark: &'a str,
+    label: &'a str,
+    number: Option<u64>,
 }
 
-// The number, the refused value, and the declaration and element that were read, as `refused 7: id 99` or
-// `refused 18: at id 5, element 3`.
-impl fmt::Display for BtfError {
+impl fmt::Display for Part<'_> {
+    ghost output = { λ p. Some (part p.mark.now p.label.now p.number) };
+
     fn fmt<W: fmt::Write>(&self, f: &mut fmt::Formatter<W>) -> fmt::Result {
-        write!(f, "refused {}", self.number())?;
-        let mut mark = ":";
-        if let Some(value) = self.value() {
-            write_part(f, mark, self.value_label(), value)?;
-            mark = ",";
+        match self.number {
+            Some(number) => write!(f, "{} {} {number}", self.mark, self.label),
+            None => Ok(()),
         }
-        if let Some(id) = self.declaration() {
-            write_part(f, mark, "at id", u64::from(id))?;
-            mark = ",";
-        }
-        if let Some(element) = self.element() {
-            write_part(f, mark, "element", u64::from(element))?;
-        }
-        Ok(())
+    }
+}
+
+// The first part stands behind a colon, the others behind commas.
+fn mark(others: bool) -> &'static str
+    ensures { result.now ≡ mark others }
+{
+    if others { "," } else { ":" }
+}
+
+impl fmt::Display for BtfError {
+    ghost output = { λ e. Some (shown e) };
+
+    fn fmt<W: fmt::Write>(&self, f: &mut fmt::Formatter<W>) -> fmt::Result {
+        let value = Part {
+            mark: mark(false),
+            label: self.value_label(),
+            number: self.value(),
+        };
+        let declaration = Part {
+            mark: mark(value.number.is_some()),
+            label: "at id",
+            number: self.declaration().map(u64::from),
+        };
+        let element = Part {
+            mark: mark(value.number.is_some() || declaration.number.is_some()),
+            label: "element",
+            number: self.element().map(u64::from),
+        };
+        write!(f, "refused {}{value}{declaration}{element}", self.number())
     }
 }
 

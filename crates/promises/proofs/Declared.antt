@@ -7,7 +7,8 @@ use Rattle.layout.specs.Kinds.{kind_number, has_linkage, extra_words, element_wo
 use Rattle.layout.specs.Heads.{low_bits, third_kept, extra_kept, head_kept}
 use Rattle.meaning.specs.Adding.{decl_with}
 use Rattle.promises.specs.Calls.{Word, Given, Elements}
-use Rattle.promises.proofs.Infos.{each_kind, kind_of_info, low_of_info, info_fits}
+use Rattle.layout.proofs.Each.{each_kind}
+use Rattle.layout.proofs.Words.{kind_built, low_built, info_fits}
 use Rattle.promises.proofs.Sound.{Sound}
 
 -- what is so of a declaration of a kind with no fault, with `count` elements of a type that serves some kinds
@@ -82,7 +83,7 @@ module _ (g : Given) (es : Elements) (k : BtfKind) (fine : Fine k g.declaration.
       let small = low_small linkage count fine.few k in
       record {
         kind = k;
-        kind_is = kind_of_info k flag low small;
+        kind_is = kind_built k flag low small;
         known = fine.known;
         name_fits = g.name_fits;
         info_fits = info_fits k flag low small;
@@ -90,7 +91,7 @@ module _ (g : Given) (es : Elements) (k : BtfKind) (fine : Fine k g.declaration.
         extra_fits = extra_fit linkage g.declaration.extra g.extra_fits k fine.linked;
         extra_length = three_kept linkage g.declaration.extra k;
         extra_rest = rest_kept linkage g.declaration.extra k;
-        counted = count_kept linkage count k has_elements ∙ ap (λ n. cond (ltb 0 (element_words k)) n 0) (sym (low_of_info k flag low small));
+        counted = count_kept linkage count k has_elements ∙ ap (λ n. cond (ltb 0 (element_words k)) n 0) (sym (low_built k flag low small));
         widths = wide_enough;
         tail_fits = es.items_fit;
       }

@@ -1,5 +1,4 @@
 pub mod Parts
-pub mod Infos
 pub mod Sound
 pub mod Declared
 pub mod Kept

@@ -16,7 +16,7 @@ use Rattle.rewriting.specs.Closed.{before, no_name, name_fault, id_fault, ids_fa
 use Rattle.rewriting.specs.Rules.{State, name_at, entry_id, entry_offset, entry_end, var_linkage}
 use Rattle.rewriting.specs.Sections.{too_large, needed, symbol_fault, entry_fault, member_fault, each_fault, granted_fault, section_fault, sections_from, sections_fault}
 use Rattle.rewriting.specs.Rewriting.{Tallies, tallied, job, ended, room_left_fault, with_rewritten, rewriting_fault, rewrite}
-use Rattle.promises.proofs.Infos.{kind_at_number}
+use Rattle.layout.proofs.Each.{kind_at_number}
 
 pub before_none : (a b : Option Refusal) → before a b ≡ None → (a ≡ None) × (b ≡ None)
 before_none (Some r) b e = absurd (let z : ◌≡◌ {A = ℕ} 0 1 = cc in omega arith)

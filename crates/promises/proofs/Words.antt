@@ -11,7 +11,7 @@ use Rattle.meaning.specs.Table.{Decl}
 use Rattle.meaning.specs.File.{decl_words, type_words, type_bytes}
 use Rattle.meaning.proofs.Lengths.{element_total}
 use Rattle.promises.specs.Calls.{Word}
-use Rattle.promises.proofs.Infos.{extra_small, element_small}
+use Rattle.layout.proofs.Each.{extra_small, element_small}
 use Rattle.promises.proofs.Parts.{length_joined, all_joined, joined_push}
 use Rattle.promises.proofs.Sound.{Sound, tail_length}
 
