@@ -1,6 +1,7 @@
 // Why a rewriting is refused.
-ghost use Rattle.std.specs.Prelude.{◌≡◌};
+ghost use Rattle.std.specs.Prelude.{◌≡◌, Some};
 ghost use Rattle.inspect.specs.Faults.{fixup_said};
+ghost use Rattle.inspect.specs.Shown.{fixup_shown};
 ghost use Rattle.inspect.specs.declared.error.FixupError.TheVariants.{Table};
 
 use layout::BtfError;
@@ -95,26 +96,38 @@ impl FixupError {
     }
 }
 
-// As the table's refusals are printed: `refused 13: id 7, at id 5, element 0`.
 impl fmt::Display for FixupError {
+    ghost output = { λ e. Some (fixup_shown e) };
+
     fn fmt<W: fmt::Write>(&self, f: &mut fmt::Formatter<W>) -> fmt::Result {
-        if let FixupError::Table(fault) = self {
-            return write!(f, "{fault}");
+        match *self {
+            FixupError::Table(fault) => write!(f, "{fault}"),
+            FixupError::UnknownSectionSize { section } => write!(f, "refused 12: at id {section}"),
+            FixupError::InvalidDatasec {
+                section,
+                entry,
+                type_id,
+            } => write!(
+                f,
+                "refused 13: id {type_id}, at id {section}, element {entry}"
+            ),
+            FixupError::SymbolOffsetNotFound { section, entry } => {
+                write!(f, "refused 14: at id {section}, element {entry}")
+            }
+            FixupError::NumberTooLarge {
+                section,
+                entry: Some(entry),
+                number,
+            } => write!(
+                f,
+                "refused 15: number {number}, at id {section}, element {entry}"
+            ),
+            FixupError::NumberTooLarge {
+                section,
+                entry: None,
+                number,
+            } => write!(f, "refused 15: number {number}, at id {section}"),
         }
-        write!(f, "refused {}:", self.number())?;
-        if let FixupError::InvalidDatasec { type_id, .. } = self {
-            write!(f, " id {type_id},")?;
-        }
-        if let FixupError::NumberTooLarge { number, .. } = self {
-            write!(f, " number {number},")?;
-        }
-        if let Some(section) = self.declaration() {
-            write!(f, " at id {section}")?;
-        }
-        if let Some(entry) = self.element() {
-            write!(f, ", element {entry}")?;
-        }
-        Ok(())
     }
 }
 
