@@ -4,22 +4,14 @@ ghost use Rattle.filing.specs.declared.error.FilingError.TheVariants.{Table, Mem
 
 use layout::BtfError;
 use std::alloc::AllocError;
-use std::fmt;
 use thiserror::Error;
 
-#[derive(Clone, Copy, Error)]
+#[derive(Clone, Copy, Debug, PartialEq, Eq, Error)]
 pub enum FilingError {
     #[error("the table refused, by number {number}", number = .0.number())]
     Table(BtfError),
     #[error("no memory is left")]
     Memory,
-}
-
-// Its text, since a `BtfError` has no `Debug` to derive from.
-impl fmt::Debug for FilingError {
-    fn fmt<W: fmt::Write>(&self, f: &mut fmt::Formatter<W>) -> fmt::Result {
-        write!(f, "{self}")
-    }
 }
 
 impl From<BtfError> for FilingError {

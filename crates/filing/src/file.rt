@@ -1,10 +1,10 @@
 // A file in memory of its own, and how long it is.
-ghost use Rattle.std.specs.Prelude.{◌≡◌, IfOk};
+ghost use Rattle.std.specs.Prelude.{◌≡◌};
 ghost use Rattle.layout.specs.Refusals.{accepted, told};
 ghost use Rattle.meaning.specs.Questions.{asked_of};
 ghost use Rattle.meaning.specs.File.{file_length};
 ghost use Rattle.table.specs.Tables.{table_of};
-ghost use Rattle.filing.specs.Filed.{Filed, IsFile};
+ghost use Rattle.filing.specs.Filed.{Filed};
 
 use crate::error::FilingError;
 use layout::BtfError;
@@ -14,7 +14,7 @@ use table::Btf;
 
 // How many bytes the file of a table has, in either byte order, as the refusal of an empty buffer says.
 pub fn file_length(table: &Btf, strings: &[u8]) -> Result<usize, BtfError>
-    ensures { told (λ n. n) result ≡ asked_of (table_of table.now.store strings.now) (accepted (file_length (table_of table.now.store strings.now))) }
+    ensures { told (λ n. n) result ≡ asked_of (table_of table.now strings.now) (accepted (file_length (table_of table.now strings.now))) }
 {
     match table.to_bytes(strings, &LittleEndian, &mut []) {
         Err(BtfError::OutputTooShort { needed }) => Ok(needed),
@@ -29,8 +29,7 @@ pub fn to_vec<O: ByteOrder>(
     strings: &[u8],
     order: &O,
 ) -> Result<Vec<u8>, FilingError>
-    ensures answer { Filed O.ByteOrder.order (table_of table.now.store strings.now) result }
-    ensures file { IfOk result (λ v. IsFile O.ByteOrder.order (table_of table.now.store strings.now) v.items) }
+    ensures { Filed O.ByteOrder.order (table_of table.now strings.now) result }
 {
     let length = file_length(table, strings)?;
     let mut file = vec![in heap; 0u8; length]?;

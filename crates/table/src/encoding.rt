@@ -1,8 +1,8 @@
 // Encoding: the header, the declarations in rising id order, the strings.
-ghost use Rattle.std.specs.Prelude.{◌≡◌, ◌+◌, ◌*◌, ◌/◌, ◌%◌, ◌^◌, ◌<◌, ◌≤◌, ◌++◌, map, length, take, drop, sum_by, ◌==◌, All};
+ghost use Rattle.std.specs.Prelude.{◌≡◌, ◌+◌, ◌*◌, ◌/◌, ◌%◌, ◌^◌, ◌<◌, ◌≤◌, ◌++◌, map, length, take, drop, sum_by, ◌==◌, All, IfOk};
 ghost use Rattle.std.specs.List.{flat_map};
 ghost use Rattle.layout.specs.Info.{low_of};
-ghost use Rattle.meaning.specs.File.{coded, header, decl_words, type_part, encode};
+ghost use Rattle.meaning.specs.File.{coded, header, decl_words, type_part, file, encode};
 ghost use Rattle.promises.specs.Examples.{ExamplesHold};
 ghost use Rattle.promises.specs.Rewritings.{RewritingsHold};
 ghost use Rattle.promises.specs.Promises.{OneFileOneTable, LengthAddsUp};
@@ -147,6 +147,7 @@ impl Btf<'_> {
         out: &mut [u8],
     ) -> Result<usize, BtfError>
         ensures file { written result out.new ≡ encode O.ByteOrder.order (table_of self.now strings.now) out.old }
+        ensures whole { IfOk result (λ n. n ≡ length (file O.ByteOrder.order (table_of self.now strings.now))) }
         ensures one_file { OneFileOneTable }
         ensures length { LengthAddsUp }
         ensures examples { ExamplesHold }
@@ -166,7 +167,8 @@ impl Btf<'_> {
         order: &O,
         out: &mut [u8],
     ) -> Result<usize, BtfError>
-        ensures { written result out.new ≡ encode O.ByteOrder.order (table_of self.now strings.now) out.old }
+        ensures file { written result out.new ≡ encode O.ByteOrder.order (table_of self.now strings.now) out.old }
+        ensures whole { IfOk result (λ n. n ≡ length (file O.ByteOrder.order (table_of self.now strings.now))) }
     {
         let view = self.view(strings)?;
         let needed = HEADER_LEN + self.type_bytes + self.string_len;

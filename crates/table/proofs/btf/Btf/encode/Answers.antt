@@ -32,4 +32,8 @@ returns g c =
     let typed = wrote_on _ c.header.new.self c.rows.new.self (header o bytes s.string_len) (type_part o t.decls) c.header.ensures types (omega arith) in
     let whole = wrote_on _ c.rows.new.self c.bytes.new.self (header o bytes s.string_len ++ type_part o t.decls) (text t) typed texts (omega arith) in
     let wrote = wrote_as (ap (λ n. (header o n t.strings ++ type_part o t.decls) ++ text t) stated) whole in
-    encode_fits o t c.args.out.now (24 + bytes + s.string_len) _ view.0 (ap (λ n. 24 + n + s.string_len) stated) c.if-out-needed.false (search rules)
+    let end = wrote.at in
+    record {
+      file = encode_fits o t c.args.out.now (24 + bytes + s.string_len) _ view.0 (ap (λ n. 24 + n + s.string_len) stated) c.if-out-needed.false (search rules);
+      whole = omega arith;
+    }

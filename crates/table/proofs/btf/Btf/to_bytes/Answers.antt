@@ -8,7 +8,8 @@ use Rattle.table.proofs.btf.Btf.to_bytes.Goals as goal
 
 pub returns : goal.returns
 returns g c = record {
-  file = c.encode.ensures;
+  file = c.encode.ensures.file;
+  whole = c.encode.ensures.whole;
   one_file = one_file_one_table;
   length = length_adds_up;
   examples = examples_hold;
