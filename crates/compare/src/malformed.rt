@@ -51,6 +51,7 @@ pub enum Part {
     Order,
 }
 
+// Written out, since texts are derived for errors alone, and a part is none.
 impl fmt::Display for Part {
     fn fmt<W: fmt::Write>(&self, f: &mut fmt::Formatter<W>) -> fmt::Result {
         f.write_str(match self {
