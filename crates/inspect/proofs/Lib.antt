@@ -1,4 +1,3 @@
 mod Faults
-mod Firsts
 mod Numbers
 mod Standing

@@ -1,3 +1,4 @@
 pub mod Ends
 pub mod Listed
 pub mod Faults
+pub mod Shown

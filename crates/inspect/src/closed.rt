@@ -1,5 +1,5 @@
 // A table is closed where every name in it is a name and every id in it has a declaration.
-ghost use Rattle.std.specs.Prelude.{◌≡◌, ℕ, ◌≤◌, true, List, length, take, None, Option, is_some};
+ghost use Rattle.std.specs.Prelude.{◌≡◌, true, length, take, is_some};
 ghost use Rattle.layout.specs.Kinds.{element_words};
 ghost use Rattle.layout.specs.Refusals.{said};
 ghost use Rattle.meaning.specs.Questions.{string_from, decl_kind};

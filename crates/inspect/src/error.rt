@@ -1,9 +1,12 @@
 // Why a rewriting is refused.
-ghost use Rattle.std.specs.Prelude.{◌≡◌};
+ghost use Rattle.std.specs.Prelude.{◌≡◌, Some};
 ghost use Rattle.inspect.specs.Faults.{fixup_said};
+ghost use Rattle.inspect.specs.Shown.{fixup_shown};
 ghost use Rattle.inspect.specs.declared.error.FixupError.TheVariants.{Table};
 
 use layout::BtfError;
+use std::error::Error;
+use std::fmt;
 
 #[derive(Clone, Copy, Debug, PartialEq, Eq)]
 pub enum FixupError {
@@ -35,8 +38,8 @@ pub enum FixupError {
 impl From<BtfError> for FixupError {
     ghost from_gives = { λ fault e. e ≡ Table fault };
 
-    fn from(fault: BtfError) -> FixupError {
-        FixupError::Table(fault)
+    fn from(refused: BtfError) -> FixupError {
+        FixupError::Table(refused)
     }
 }
 
@@ -92,3 +95,40 @@ impl FixupError {
         }
     }
 }
+
+impl fmt::Display for FixupError {
+    ghost output = { λ e. Some (fixup_shown e) };
+
+    fn fmt<W: fmt::Write>(&self, f: &mut fmt::Formatter<W>) -> fmt::Result {
+        match *self {
+            FixupError::Table(fault) => write!(f, "{fault}"),
+            FixupError::UnknownSectionSize { section } => write!(f, "refused 12: at id {section}"),
+            FixupError::InvalidDatasec {
+                section,
+                entry,
+                type_id,
+            } => write!(
+                f,
+                "refused 13: id {type_id}, at id {section}, element {entry}"
+            ),
+            FixupError::SymbolOffsetNotFound { section, entry } => {
+                write!(f, "refused 14: at id {section}, element {entry}")
+            }
+            FixupError::NumberTooLarge {
+                section,
+                entry: Some(entry),
+                number,
+            } => write!(
+                f,
+                "refused 15: number {number}, at id {section}, element {entry}"
+            ),
+            FixupError::NumberTooLarge {
+                section,
+                entry: None,
+                number,
+            } => write!(f, "refused 15: number {number}, at id {section}"),
+        }
+    }
+}
+
+impl Error for FixupError {}

@@ -1,5 +1,5 @@
 // What may be missing or too large for the rules on sections.
-ghost use Rattle.std.specs.Prelude.{◌≡◌, Bool, true, take, map, None};
+ghost use Rattle.std.specs.Prelude.{◌≡◌, Bool, true, take, None};
 ghost use Rattle.features.specs.declared.BtfFeature.{BtfFeature};
 ghost use Rattle.features.specs.declared.BtfFeature.TheVariants.{DataSec};
 ghost use Rattle.layout.specs.Info.{kind_of};

@@ -1,8 +1,8 @@
 -- The search, one row at a time.
-use Rattle.std.proofs.Common.{◌≡◌, ℕ, ◌+◌, ◌<◌, ◌≤◌, List, [], length, get_or, drop, None, sym, ap, ◌∙◌}
+use Rattle.std.proofs.Common.{◌≡◌, ℕ, ◌+◌, ◌<◌, List, [], length, get_or, drop, sym, ap, ◌∙◌}
 use lib.ListN.{length-map}
-use Rattle.std.proofs.lemmas.List.{at_drop_more, at_drop_all}
-use Rattle.layout.specs.Refusals.{Answer, Refusal, accepted, refused, refusal}
+use Rattle.std.proofs.lemmas.List.{at_drop_more}
+use Rattle.layout.specs.Refusals.{Answer, Refusal, accepted, refused}
 use Rattle.layout.specs.declared.kind.BtfKind.{BtfKind}
 use Rattle.meaning.specs.Table.{void}
 use Rattle.meaning.specs.Questions.{find_here, find_from}
@@ -21,9 +21,6 @@ pub record Searched (v : View) (name : List ℕ) (kind : BtfKind) (whole : Answe
   pub on : whole ≡ find_from (drop at (decls v)) v.strings.now name kind at
 
 module _ {v : View} {name : List ℕ} {kind : BtfKind} {whole : Answer ℕ} {at : ℕ} (far : Searched v name kind whole at) where
-  pub find_none : length v.rows.now ≤ at → refused (refusal 11 None None None) ≡ whole
-  find_none h = sym (far.on ∙ at_drop_all (λ l. find_from l v.strings.now name kind at) (decls v) at (simp length-map h))
-
   module _ (there : at < length v.rows.now) where
     abbrev pub here : Answer ℕ → Answer ℕ
     here rest = find_here (decl_of v.elements.now (get_or v.rows.now at blank)) v.strings.now name kind at rest

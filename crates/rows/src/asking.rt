@@ -1,5 +1,5 @@
 // The questions that are answered by one declaration or by a search.
-ghost use Rattle.std.specs.Prelude.{◌≡◌, ℕ, List, take, drop};
+ghost use Rattle.std.specs.Prelude.{◌≡◌, ℕ, take, drop};
 ghost use Rattle.layout.specs.Info.{elements_of};
 ghost use Rattle.layout.specs.Refusals.{told, Answer};
 ghost use Rattle.meaning.specs.Questions.{string_at, type_by_id, element_at, element_of, type_name, find_here, find_from};

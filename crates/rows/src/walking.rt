@@ -82,20 +82,17 @@ impl Walk for Measuring {
                 id: element,
                 carried: word_of(id, u64::from(count) * u64::from(len))?,
             }),
-            BtfKind::Ptr => {
-                let size = word_of(id, u64::from(self.width.bytes()) * u64::from(count))?;
-                Ok(Step::Ends(size))
-            }
+            BtfKind::Ptr => Ok(Step::Ends(word_of(
+                id,
+                u64::from(self.width.bytes()) * u64::from(count),
+            )?)),
             BtfKind::Int
             | BtfKind::Struct
             | BtfKind::Union
             | BtfKind::Enum
             | BtfKind::DataSec
             | BtfKind::Float
-            | BtfKind::Enum64 => {
-                let size = word_of(id, u64::from(third) * u64::from(count))?;
-                Ok(Step::Ends(size))
-            }
+            | BtfKind::Enum64 => Ok(Step::Ends(word_of(id, u64::from(third) * u64::from(count))?)),
             BtfKind::Unknown | BtfKind::Fwd | BtfKind::Func | BtfKind::FuncProto => {
                 Err(BtfError::UnexpectedBtfType { type_id: id })
             }

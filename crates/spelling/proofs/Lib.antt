@@ -1,2 +1,2 @@
-pub mod Spelled
-pub mod Decimals
+mod Numbered
+mod Spelled

@@ -1,8 +1,10 @@
 // Names in which one byte stands for another.
-ghost use Rattle.std.specs.Prelude.{◌≡◌, ℕ, ◌+◌, ◌<◌, ◌≤◌, map, length, take, drop, if◌then◌else◌};
-ghost use Rattle.meaning.specs.Adding.{over};
+ghost use Rattle.std.specs.Prelude.{◌≡◌, ◌==◌, not, ℕ, map, is_ok, if◌then◌else◌};
+ghost use Rattle.std.specs.List.{list_any};
 ghost use Rattle.rewriting.specs.Rules.{dotted, underscored};
 ghost use Rattle.spelling.specs.Names.{changes, fits, respelled};
+
+use crate::error::DoesNotFit;
 
 // A spelling means a byte for each byte.
 pub trait Spelling {
@@ -13,7 +15,7 @@ pub trait Spelling {
 }
 
 // The spelling of sections that stay: '/' becomes '.'.
-#[derive(Clone, Copy)]
+#[derive(Clone, Copy, Debug, PartialEq, Eq)]
 pub struct Dotted;
 
 impl Spelling for Dotted {
@@ -28,7 +30,7 @@ impl Spelling for Dotted {
 }
 
 // The spelling of structs that sections become: '.' becomes '_'.
-#[derive(Clone, Copy)]
+#[derive(Clone, Copy, Debug, PartialEq, Eq)]
 pub struct Underscored;
 
 impl Spelling for Underscored {
@@ -46,34 +48,40 @@ impl Spelling for Underscored {
 pub fn changes<S: Spelling>(name: &[u8]) -> bool
     ensures { result ≡ changes S.Spelling.spells name.now }
 {
-    for byte in name {
-        if S::spell(*byte) != *byte {
-            return true;
-        }
-    }
-    false
+    changes_byte::<S>(name)
 }
 
-// Writes the name of `count` bytes at `from` spelled anew to `at`, and a zero byte behind it, and answers whether it did:
-// not where the name reaches past `at`, or the area ends too soon. The rest of the area is left as it was.
-pub fn put_respelled<S: Spelling>(area: &mut [u8], at: usize, from: usize, count: usize) -> bool
-    ensures answer { result ≡ fits area.old at from count }
-    ensures area { area.new ≡ (if result then respelled S.Spelling.spells area.old at from count else area.old) }
+// Whether a spelling changes a byte of a name.
+fn changes_byte<S: Spelling>(name: &[u8]) -> bool
+    ensures { result ≡ list_any (λ b. not (S.Spelling.spells b == b)) name.now }
+{
+    name.iter().any(|byte| S::spell(*byte) != *byte)
+}
+
+// Writes the name of `count` bytes at `from` spelled anew to `at`, and a zero byte behind it: not where the name reaches
+// past `at`, or the area ends too soon. The rest of the area is left as it was.
+pub fn put_respelled<S: Spelling>(
+    area: &mut [u8],
+    at: usize,
+    from: usize,
+    count: usize,
+) -> Result<(), DoesNotFit>
+    ensures answer { is_ok result ≡ fits area.old at from count }
+    ensures area { area.new ≡ (if is_ok result then respelled S.Spelling.spells area.old at from count else area.old) }
 {
     if at < from || at - from < count || area.len() < at || area.len() - at <= count {
-        return false;
+        return Err(DoesNotFit);
     }
-    spell_on::<S>(area, at, from, count);
+    area.copy_within(from..from + count, at);
+    spell_anew::<S>(&mut area[at..at + count]);
     area[at + count] = 0;
-    true
+    Ok(())
 }
 
-fn spell_on<S: Spelling>(area: &mut [u8], at: usize, from: usize, count: usize)
-    requires before { from + count ≤ at }
-    requires room { at + count < length area.old }
-    ensures { area.new ≡ over at (map S.Spelling.spells (take count (drop from area.old))) area.old }
+fn spell_anew<S: Spelling>(name: &mut [u8])
+    ensures { name.new ≡ map S.Spelling.spells name.old }
 {
-    for i in 0..count {
-        area[at + i] = S::spell(area[from + i]);
+    for byte in name.iter_mut() {
+        *byte = S::spell(*byte);
     }
 }

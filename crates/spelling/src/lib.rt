@@ -2,7 +2,9 @@
 #![tactic(auto)]
 
 mod bytes;
+mod error;
 mod params;
 
 pub use bytes::{Dotted, Spelling, Underscored, changes, put_respelled};
+pub use error::DoesNotFit;
 pub use params::{param_len, put_param};

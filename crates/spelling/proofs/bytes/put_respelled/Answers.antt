@@ -1,10 +1,8 @@
-use Rattle.std.proofs.Common.{◌+◌, length, sym, arith}
-use Rattle.std.proofs.lemmas.Bool.{and_from, le-leb, lt-ltb}
-use Rattle.spelling.proofs.Spelled.{spell_ends}
+use Rattle.std.proofs.Common.{arith}
+use Rattle.spelling.proofs.Spelled.{spelled_behind}
 use Rattle.spelling.proofs.bytes.put_respelled.Goals as goal
 
-pub returns : goal.returns
-returns g c = record {
-  answer = sym (and_from _ _ (le-leb (c.args.from + c.args.count) c.args.at (omega arith)) (lt-ltb (c.args.at + c.args.count) (length c.args.area.now) (omega arith)));
-  area = spell_ends g.S.Spelling.spells c.spell_on.new.area c.args.area.now c.args.at c.args.from c.args.count c.spell_on.ensures (omega arith) (omega arith);
-}
+pub returns-clause-area : goal.returns-clause-area
+returns-clause-area g c =
+    spelled_behind g.S.Spelling.spells c.copy_within.new.self c.spell_anew.new.name c.args.area.now c.args.at c.args.from c.args.count
+    c.copy_within.ensures.after c.spell_anew.ensures (omega arith) (omega arith)

@@ -1,11 +1,8 @@
-use Rattle.std.proofs.Common.{◌+◌, length, sym, arith}
-use Rattle.std.proofs.lemmas.Bool.{le-leb}
-use Rattle.rewriting.specs.Rules.{param_name}
-use Rattle.spelling.proofs.Decimals.{param_put}
+use Rattle.std.proofs.Common.{ℕ, ◌+◌, List, length, sym, ap, ◌∙◌, arith}
+use Rattle.spelling.proofs.Numbered.{param_put}
 use Rattle.spelling.proofs.params.put_param.Goals as goal
 
-pub returns : goal.returns
-returns c = record {
-  answer = sym (le-leb (c.args.at + (length (param_name c.args.index) + 1)) (length c.args.area.now) (omega (arith, c.param_len-len.ensures)));
-  area = param_put c.copy_from_slice.new.self c.put_decimal.new.area c.args.area.now c.args.at c.args.index c.param_len-len.result c.copy_from_slice.ensures.after c.put_decimal.ensures (omega (arith, c.param_len-len.ensures)) (omega arith);
-}
+pub returns-clause-area : goal.returns-clause-area
+returns-clause-area c =
+    param_put c.copy_from_slice.new.self c.copy_from_slice-2.new.self c.args.area.now c.args.at c.args.index (5 + length c.as_bytes-digits.result.now)
+    c.copy_from_slice.ensures.after (c.copy_from_slice-2.ensures.after ∙ c.as_bytes-digits.ensures.value ∙ c.format.ensures.text) (ap (λ (l : List ℕ). 5 + length l) (sym c.copy_from_slice-2.ensures.after)) (omega arith)

@@ -1,10 +1,6 @@
-use Rattle.std.proofs.Common.{refl}
 use Rattle.std.proofs.lemmas.Result.{err_from_is_err_and}
-use Rattle.rows.proofs.Finds.{find_none, find_stops, find_ends, find_onward}
+use Rattle.rows.proofs.Finds.{find_stops, find_ends, find_onward}
 use Rattle.rows.proofs.view.View.id_by_type_name_kind.Goals as goal
-
-pub loop-at-init : goal.loop-at-init
-loop-at-init c = record { on = refl }
 
 pub returns-in_err-is_named : goal.returns-in_err-is_named
 returns-in_err-is_named c =
@@ -16,6 +12,3 @@ returns-then-branch c = find_ends c.loop-at.invariant c.loop-at-test.true (rw c.
 
 pub loop-at-preserved : goal.loop-at-preserved
 loop-at-preserved c = find_onward c.loop-at.invariant c.loop-at-test.true (rw c.if-branch.false at c.in_ok-is_named.ensures)
-
-pub returns : goal.returns
-returns c = find_none c.loop-at.invariant c.loop-at-test.false

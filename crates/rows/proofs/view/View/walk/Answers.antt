@@ -1,10 +1,6 @@
-use Rattle.std.proofs.Common.{refl}
 use Rattle.std.proofs.lemmas.Result.{err_from_is_err_and}
 use Rattle.rows.proofs.Paths.{path_over, path_missing, path_stuck, path_ends, path_onward}
 use Rattle.rows.proofs.view.View.walk.Goals as goal
-
-pub loop-links-init : goal.loop-links-init
-loop-links-init g c = record { on = refl }
 
 pub returns-in_err-row-clause-answer : goal.returns-in_err-row-clause-answer
 returns-in_err-row-clause-answer g c =

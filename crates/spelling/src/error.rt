@@ -1,0 +1,15 @@
+// Why a name is not written.
+use std::error::Error;
+use std::fmt;
+
+// The name does not fit where it is to be written.
+#[derive(Clone, Copy, Debug, PartialEq, Eq)]
+pub struct DoesNotFit;
+
+impl fmt::Display for DoesNotFit {
+    fn fmt<W: fmt::Write>(&self, f: &mut fmt::Formatter<W>) -> fmt::Result {
+        f.write_str("the name does not fit there")
+    }
+}
+
+impl Error for DoesNotFit {}
