@@ -4,13 +4,8 @@ use crate::fault::Fault;
 use crate::malformed::{Malformed, Part};
 use crate::words::Words;
 use layout::{BtfKind, PointerWidth};
+use order::Endian;
 use std::alloc::Global;
-
-#[derive(Clone, Copy)]
-pub enum Endian {
-    Little,
-    Big,
-}
 
 #[derive(Drop)]
 pub enum Question {
@@ -34,11 +29,7 @@ pub enum Command {
 }
 
 fn read_endian(words: &mut Words) -> Result<Endian, Malformed> {
-    match words.text(Part::Order)? {
-        b"little" => Ok(Endian::Little),
-        b"big" => Ok(Endian::Big),
-        _ => Err(Malformed::NotAnOrder),
-    }
+    Endian::try_from(words.text(Part::Order)?).map_err(|_| Malformed::NotAnOrder)
 }
 
 // Unknown is the kind of the number 0 and of those that no kind has.

@@ -1,6 +1,6 @@
 // Runs the commands of a script on its table, and prints an answer for each.
 use crate::answer::Answer;
-use crate::command::{Command, Endian, Question};
+use crate::command::{Command, Question};
 use crate::declared::{Declared, Tail};
 use crate::fault::Fault;
 use crate::malformed::Malformed;
@@ -8,7 +8,7 @@ use crate::script::Line;
 use elements::{BtfMember, Element};
 use filing::FilingError;
 use layout::BtfError;
-use order::{BigEndian, ByteOrder, LittleEndian};
+use order::{BigEndian, ByteOrder, Endian, LittleEndian};
 use std::alloc::Global;
 use std::io::Write;
 use table::{Btf, TypeRow};

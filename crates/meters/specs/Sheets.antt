@@ -1,7 +1,5 @@
 -- How bytes are cut at a mark, and what the fields of a row are.
-use Rattle.std.specs.Prelude.{◌≡◌, ℕ, ◌<◌, ◌≤◌, List, ◌∷◌, ◌++◌, length, codes, ◌≢◌, slice_index}
-use Rattle.meters.specs.declared.files.Endian.{Endian}
-use Rattle.meters.specs.declared.files.Endian.TheVariants.{Little, Big}
+use Rattle.std.specs.Prelude.{◌≡◌, ℕ, ◌<◌, ◌≤◌, List, ◌∷◌, ◌++◌, length, ◌≢◌, slice_index}
 
 -- none of the first n bytes is b
 abbrev pub Without : List ℕ → ℕ → ℕ → Type 0
@@ -27,12 +25,3 @@ Named name = (0 < length name) × (length name ≤ 64) × AllPrintable name
 abbrev pub Fields : List ℕ → List ℕ → List ℕ → List ℕ → Type 0
 Fields line name order kernel =
     (line ≡ name ++ 44 ∷ (order ++ 44 ∷ kernel)) × Lacks name 44 × Lacks order 44 × Lacks kernel 44
-
--- how a sheet writes a byte order
-abbrev pub order_word : Endian → List ℕ
-order_word Little = codes "little"
-order_word Big = codes "big"
-
--- the word is no byte order's
-abbrev pub NamesNoOrder : List ℕ → Type 0
-NamesNoOrder word = (e : Endian) → word ≢ order_word e

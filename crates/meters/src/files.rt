@@ -1,26 +1,10 @@
 // The two files of a table, and how they are printed.
 use crate::shown::Hex;
 use filing::FilingError;
-use order::{BigEndian, LittleEndian};
+use order::{BigEndian, Endian, LittleEndian};
 use std::alloc::Global;
-use std::{fmt, io};
+use std::io;
 use table::Btf;
-
-// The byte order of a gateway's machine.
-#[derive(Clone, Copy)]
-pub enum Endian {
-    Little,
-    Big,
-}
-
-impl fmt::Display for Endian {
-    fn fmt<W: fmt::Write>(&self, f: &mut fmt::Formatter<W>) -> fmt::Result {
-        f.write_str(match self {
-            Endian::Little => "little",
-            Endian::Big => "big",
-        })
-    }
-}
 
 #[derive(Drop)]
 pub struct Files {

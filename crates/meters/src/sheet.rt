@@ -1,8 +1,7 @@
 // A swap sheet: how it is read, and cut into lines and fields.
-ghost use Rattle.std.specs.Prelude.{◌≡◌, ℕ, ◌<◌, ◌≤◌, length, vec_len, IfOk, MatchOption, MatchResult};
-ghost use Rattle.meters.specs.Sheets.{Split, Lacks, AllPrintable, Named, Fields, order_word, NamesNoOrder};
+ghost use Rattle.std.specs.Prelude.{◌≡◌, ℕ, ◌<◌, ◌≤◌, length, vec_len, IfOk, MatchOption};
+ghost use Rattle.meters.specs.Sheets.{Split, Lacks, AllPrintable, Named, Fields};
 
-use crate::files::Endian;
 use bstr::{ByteSlice, LinesWithTerminator};
 use std::io;
 use std::io::Read;
@@ -115,23 +114,6 @@ impl<'a> TryFrom<&'a [u8]> for Row<'a> {
             order,
             kernel,
         })
-    }
-}
-
-impl TryFrom<&[u8]> for Endian {
-    type Error = Malformed;
-
-    ghost try_from_gives = { λ word result. MatchResult result (λ endian. word.now ≡ order_word endian) (λ _. NamesNoOrder word.now) };
-
-    // The byte order that a row names.
-    fn try_from(word: &[u8]) -> Result<Endian, Malformed> {
-        if word == b"little".as_slice() {
-            Ok(Endian::Little)
-        } else if word == b"big".as_slice() {
-            Ok(Endian::Big)
-        } else {
-            Err(Malformed::UnknownOrder)
-        }
     }
 }
 

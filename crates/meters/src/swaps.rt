@@ -1,9 +1,10 @@
 // Which gateway of a sheet gets which file. Gateways whose files have the same bytes are billed alike.
 use crate::fault::Fault;
-use crate::files::{Endian, Files};
+use crate::files::Files;
 use crate::given::Given;
 use crate::sheet::{Malformed, Row, Sheet, is_passed_over, without_end};
 use crate::shown::Shown;
+use order::Endian;
 use std::collections::BTreeMap;
 use std::io;
 
@@ -66,7 +67,7 @@ impl<'s> Swaps<'s> {
         self.lines.insert(name, line)?;
         match Endian::try_from(row.order) {
             Ok(endian) => self.give_file(line, row, endian),
-            Err(malformed) => self.refuse(line, malformed),
+            Err(_) => self.refuse(line, Malformed::UnknownOrder),
         }
     }
 

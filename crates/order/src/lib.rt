@@ -1,9 +1,13 @@
 // Byte orders: how a 16-bit number and a 32-bit word stand in a file.
 #![tactic(auto)]
 
+mod endian;
+
 ghost use Rattle.std.specs.Prelude.{◌≡◌};
 ghost use Rattle.order.specs.Order.{Order};
 ghost use Rattle.order.specs.Built.{little, big};
+
+pub use endian::{Endian, UnknownEndian};
 
 // A byte order means two functions from numbers to bytes under which unlike numbers have unlike bytes.
 pub trait ByteOrder {
