@@ -1,4 +1,6 @@
 // Why a name is not written.
+ghost use Rattle.std.specs.Prelude.{Some, codes};
+
 use std::error::Error;
 use std::fmt;
 
@@ -7,6 +9,8 @@ use std::fmt;
 pub struct DoesNotFit;
 
 impl fmt::Display for DoesNotFit {
+    ghost output = { λ _. Some (codes "the name does not fit there") };
+
     fn fmt<W: fmt::Write>(&self, f: &mut fmt::Formatter<W>) -> fmt::Result {
         f.write_str("the name does not fit there")
     }
