@@ -4,6 +4,7 @@ mod Counts
 mod Encodes
 mod Maps
 mod Names
+mod Rows
 mod Tables
 mod Writes
 mod Writing

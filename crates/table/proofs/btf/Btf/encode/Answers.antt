@@ -1,5 +1,5 @@
-use Rattle.std.proofs.Common.{◌≡◌, ◌+◌, ◌≤◌, ◌++◌, ltb, leb, map, length, sum_by, sym, ap, ◌∙◌, arith, length-take, rules}
-use Rattle.std.proofs.lemmas.Bool.{and_parts, leb-true}
+use Rattle.std.proofs.Common.{◌≡◌, ◌+◌, ◌≤◌, ◌++◌, map, length, take, sum_by, sym, ap, ◌∙◌, arith, length-take, rules}
+use Rattle.std.proofs.lemmas.Grind.{common_steps}
 use Rattle.meaning.specs.Table.{text}
 use Rattle.meaning.specs.File.{header, type_part, type_bytes}
 use Rattle.rows.specs.Rows.{decl_of}
@@ -11,6 +11,27 @@ use Rattle.table.proofs.Writes.{header_long}
 use Rattle.table.proofs.Writing.{wrote_on, wrote_as}
 use Rattle.table.proofs.btf.Btf.encode.Goals as goal
 
+pub rows-requires-clause-room : goal.rows-requires-clause-room
+rows-requires-clause-room g c =
+    let s = c.args.self.now in
+    let view = asked_held (table_of s c.args.strings.now) _ _ c.in_ok-view.ensures in
+    let counted : sum_by row_length c.in_ok-view.view.rows.now ≡ s.type_bytes = ap (λ (x : Seen). sum_by row_length x.rows) view.1 ∙ sym s.counted in
+    let at = c.header.ensures.at in
+    let long = c.header.ensures.long in
+    omega (arith, header_long g.O.ByteOrder.order s.type_bytes s.string_len)
+
+pub bytes-requires : goal.bytes-requires
+bytes-requires g c =
+    let s = c.args.self.now in
+    let view = asked_held (table_of s c.args.strings.now) _ _ c.in_ok-view.ensures in
+    let counted : sum_by row_length c.in_ok-view.view.rows.now ≡ s.type_bytes = ap (λ (x : Seen). sum_by row_length x.rows) view.1 ∙ sym s.counted in
+    let texts : length c.in_ok-view.view.strings.now ≡ length (take s.string_len c.args.strings.now) = ap (λ (x : Seen). length x.strings) view.1 in
+    let at = c.header.ensures.at in
+    let long = c.header.ensures.long in
+    let end = c.rows.ensures.end in
+    let longer = c.rows.ensures.bytes.long in
+    omega (arith, header_long g.O.ByteOrder.order s.type_bytes s.string_len, length-take s.string_len c.args.strings.now)
+
 pub returns : goal.returns
 returns g c =
     let o = g.O.ByteOrder.order in
@@ -20,7 +41,7 @@ returns g c =
     let bytes = s.type_bytes in
     let stated : bytes ≡ type_bytes t.decls = sym (bytes_stated s strings) in
     let view = asked_held t _ _ c.in_ok-view.ensures in
-    let within : s.string_len ≤ length strings = leb-true s.string_len (length strings) (and_parts (ltb 0 (length t.decls)) (leb s.string_len (length strings)) view.0).1 in
+    let within : s.string_len ≤ length strings = grind (arith, common_steps, view.0) in
     let long : length (text t) ≡ s.string_len = length-take s.string_len strings ∙ omega arith in
     let counted : sum_by row_length c.in_ok-view.view.rows.now ≡ bytes = ap (λ (x : Seen). sum_by row_length x.rows) view.1 ∙ sym s.counted in
     let types = wrote_as (ap (λ (x : Seen). type_part o (map (decl_of x.elements) x.rows)) view.1) c.rows.ensures.bytes in

@@ -11,6 +11,11 @@ use Rattle.table.proofs.writer.Writer.rows.Goals as goal
 abbrev blank : TypeRow
 blank = record { head = record { name_offset = 0; info = 0; size_or_type = 0; extra = [] }; first = 0 }
 
+pub row-requires-clause-room : goal.row-requires-clause-room
+row-requires-clause-room g c =
+    let rows = c.args.view.now.rows.now in
+    omega (arith, sum_by_more row_length rows c.loop-row.row-index blank c.loop-row-test.true, sum_by-take-le row_length rows (c.loop-row.row-index + 1))
+
 pub loop-row-preserved : goal.loop-row-preserved
 loop-row-preserved g c =
     let o = g.O.ByteOrder.order in
