@@ -1,7 +1,7 @@
 -- Writing at a place, and writing on behind it.
 use Rattle.std.proofs.Common.{◌≡◌, ℕ, ◌+◌, ◌<◌, ◌≤◌, List, [], ◌∷◌, ◌++◌, map, length, get_or, take, drop, set, sym, ap, ◌∙◌, append_assoc, add-zero, arith, length-append, length-drop, length-take}
 use lib.ListN.{length-map}
-use Rattle.std.proofs.lemmas.List.{take-append-drop, set_at, drop_more, take_at, drop_at, drop-drop, map_more, take_all}
+use Rattle.std.proofs.lemmas.List.{take-append-drop, set_at, drop_more, take_at, drop_at, drop-drop, map_more}
 use Rattle.meaning.specs.Adding.{over}
 
 module _ {X : Type 0} where
@@ -66,6 +66,3 @@ module _ {X Y : Type 0} (f : Y → X) where
       ap (λ n. set (over at new old) (at + n) x) (sym nlen) ∙
       over_more at new x old (omega arith) ∙
       ap (λ l. over at l old) pushed
-
-  pub over_map_all : (ys : List Y) (i at : ℕ) (area old : List X) → area ≡ over at (map f (take i ys)) old → length ys ≤ i → area ≡ over at (map f ys) old
-  over_map_all ys i at area old inv h = inv ∙ ap (λ l. over at (map f l) old) (take_all i ys h)

@@ -5,13 +5,13 @@ use Rattle.std.proofs.lemmas.List.{nil_from_length}
 use Rattle.std.proofs.lemmas.Bool.{eqb-true, eq-eqb, ne_eqb}
 use Rattle.layout.specs.declared.kind.BtfKind.{BtfKind}
 use Rattle.layout.specs.Kinds.{kind_number, element_words}
-use Rattle.layout.specs.Info.{low_of, flag_of}
+use Rattle.layout.specs.Info.{flag_of}
 use Rattle.layout.specs.Heads.{low_bits, declared}
 use Rattle.meaning.specs.Questions.{decl_kind}
 use Rattle.rewriting.specs.Rules.{kept}
 use Rattle.promises.specs.Calls.{Word, Given, Elements}
 use Rattle.layout.proofs.Each.{kind_small}
-use Rattle.layout.proofs.Words.{kind_built, low_built}
+use Rattle.layout.proofs.Words.{kind_built}
 use Rattle.promises.proofs.Sound.{Sound}
 use Rattle.promises.proofs.Declared.{sound_declared, low_small}
 
@@ -21,9 +21,6 @@ none_serves k e = cc
 module _ (name : ℕ) (k : BtfKind) (linkage third data_word : ℕ) (tail : List (List ℕ)) (few : length tail ≤ 65535) where
   pub kind_kept : decl_kind (kept name k linkage third data_word tail) ≡ k
   kind_kept = kind_built k false (low_bits k linkage (length tail)) (low_small linkage (length tail) few k)
-
-  pub low_kept : low_of (kept name k linkage third data_word tail).info ≡ low_bits k linkage (length tail)
-  low_kept = low_built k false (low_bits k linkage (length tail)) (low_small linkage (length tail) few k)
 
   pub flag_kept : flag_of (kept name k linkage third data_word tail).info ≡ false
   flag_kept = ne_eqb _ _ (λ e. omega (arith, kind_small k, low_small linkage (length tail) few k))

@@ -64,9 +64,6 @@ bounded_before j s u l b = record {
 pub next_fits : (j : Job) (s : State) → Bounded j s → Word (next_offset j s)
 next_fits j s b = omega (arith, b.strings)
 
-pub next_id_fits : (j : Job) (s : State) → Bounded j s → Word (next_id j s + 1)
-next_id_fits j s b = omega (arith, b.decls)
-
 id_or_fits : (o : Option ℕ) (n : ℕ) → ((id : ℕ) → o ≡ Some id → Word id) → Word n → Word (id_or o n)
 id_or_fits (Some id) n h p = h id refl
 id_or_fits None n h p = p

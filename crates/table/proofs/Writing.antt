@@ -1,19 +1,16 @@
 -- Writing on behind what was written.
-use Rattle.std.proofs.Common.{◌≡◌, ℕ, ◌+◌, ◌<◌, ◌≤◌, List, [], ◌++◌, length, get_or, take, sym, refl, ap, ◌∙◌, subst, arith, length-append}
+use Rattle.std.proofs.Common.{◌≡◌, ℕ, ◌+◌, ◌<◌, ◌≤◌, List, ◌++◌, length, get_or, take, sym, ap, ◌∙◌, subst, arith, length-append}
 use Rattle.std.specs.List.{flat_map}
 use Rattle.std.proofs.lemmas.Grind.{flat_map-append}
 use Rattle.order.specs.Order.{Order}
 use Rattle.meaning.specs.Adding.{over}
 use Rattle.meaning.specs.File.{coded}
 use Rattle.meaning.proofs.Files.{joined_take}
-use Rattle.meaning.proofs.Over.{over_none, over_over}
+use Rattle.meaning.proofs.Over.{over_over}
 use Rattle.table.specs.Writing.{Wrote}
 use Rattle.table.specs.declared.writer.Writer.{Writer}
 
 module _ {O : Type 0} where
-  pub wrote_none : (w : Writer O) → Wrote w [] w
-  wrote_none w = record { out = sym (over_none w.at w.out.now); at = omega arith; long = refl; same = refl }
-
   pub wrote_on : (a b c : Writer O) (x y : List ℕ) → Wrote a x b → Wrote b y c → c.at ≤ length a.out.now → Wrote a (x ++ y) c
   wrote_on a b c x y f s room =
       let fat = f.at in
