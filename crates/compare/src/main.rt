@@ -19,22 +19,16 @@ use crate::script::{Line, lines};
 use crate::serving::{Session, serve};
 use elements::Element;
 use std::io::{BufWriter, Read, Write};
-use table::TypeRow;
+use table::{MOST_DECLARATIONS, MOST_ELEMENTS, MOST_STRINGS, TypeRow};
 
 // The areas are as long as a table can use them, so that a script lacks room only where every table would.
-const MOST_DECLARATIONS: usize = 1_048_575;
-
-const MOST_ELEMENTS: usize = 2_097_152;
-
-const MOST_NAME_BYTES: usize = 16_777_215;
-
 fn run(rt: &HostRuntime) -> Result<(), Fault> {
     let heap = rt.alloc();
     let mut input = Vec::new(heap);
     rt.stdin().read_to_end(&mut input)?;
     let mut rows = vec![in heap; TypeRow::empty(); MOST_DECLARATIONS]?;
     let mut elements = vec![in heap; Element::empty(); MOST_ELEMENTS]?;
-    let mut names = vec![in heap; 0u8; MOST_NAME_BYTES]?;
+    let mut names = vec![in heap; 0u8; MOST_STRINGS]?;
     let mut out = BufWriter::new(heap, rt.stdout())?;
     // A script goes from a line `new` up to the next one. What stands before the first has no table.
     for script in lines(heap, &input)?.chunk_by(|_, line| !line.begins_table()) {

@@ -1,5 +1,5 @@
 -- What a check says, and what a refusal of a rewriting says: its own faults, or the table's fault whole.
-use Rattle.std.specs.Prelude.{ℕ, ◌+◌, List, [], ◌∷◌, Some, None, Ok, Err, Option, Result}
+use Rattle.std.specs.Prelude.{ℕ, ◌+◌, List, [], ◌∷◌, Some, None, Option}
 use Rattle.layout.specs.Refusals.{Refusal, refusal, said}
 use Rattle.rewriting.specs.Closed.{before}
 use Rattle.inspect.specs.declared.error.FixupError.{FixupError}
@@ -12,11 +12,6 @@ fixup_said (UnknownSectionSize section) = refusal 12 (Some section) None None
 fixup_said (InvalidDatasec section entry type-id) = refusal 13 (Some section) (Some entry) (Some type-id)
 fixup_said (SymbolOffsetNotFound section entry) = refusal 14 (Some section) (Some entry) None
 fixup_said (NumberTooLarge section entry number) = refusal 15 (Some section) entry (Some number)
-
--- what a check found, by what an error says
-abbrev pub fault_of : {E : Type 0} → (E → Refusal) → Result (Unit {0}) E → Option Refusal
-fault_of says (Ok done) = None
-fault_of says (Err e) = Some (says e)
 
 -- the first fault of items in rising order, by the place of each
 abbrev pub first_fault : {X : Type 0} → (ℕ → X → Option Refusal) → ℕ → List X → Option Refusal

@@ -1,13 +1,12 @@
 // A table is closed where every name in it is a name and every id in it has a declaration.
 ghost use Rattle.std.specs.Prelude.{◌≡◌, true, length, take, is_some};
 ghost use Rattle.layout.specs.Kinds.{element_words};
-ghost use Rattle.layout.specs.Refusals.{said};
+ghost use Rattle.layout.specs.Refusals.{said, fault_of};
 ghost use Rattle.meaning.specs.Questions.{string_from, decl_kind};
 ghost use Rattle.rows.specs.Rows.{decl_of};
 ghost use Rattle.rows.specs.Views.{few_decls};
 ghost use Rattle.rewriting.specs.Closed.{name_fault, id_fault, ids_fault, own_ids, element_refers, element_fault, elements_fault, open_at, open_fault};
 ghost use Rattle.inspect.specs.Ends.{Ends};
-ghost use Rattle.inspect.specs.Faults.{fault_of};
 
 use crate::each::{Check, check_each};
 use elements::Element;

@@ -1,7 +1,7 @@
 // Items that are checked in rising order, up to the first fault.
 ghost use Rattle.std.specs.Prelude.{◌≡◌, ℕ, ◌^◌, ◌≤◌, length, Option};
-ghost use Rattle.layout.specs.Refusals.{Refusal};
-ghost use Rattle.inspect.specs.Faults.{fault_of, first_fault};
+ghost use Rattle.layout.specs.Refusals.{Refusal, fault_of};
+ghost use Rattle.inspect.specs.Faults.{first_fault};
 
 // A check means the fault of each item, by its place.
 pub(crate) trait Check {

@@ -8,7 +8,8 @@ ghost use Rattle.rows.specs.Rows.{decl_of};
 ghost use Rattle.rewriting.specs.Requests.{section_number};
 ghost use Rattle.rewriting.specs.Rules.{name_at};
 ghost use Rattle.rewriting.specs.Sections.{too_large, needed, symbol_fault, entry_fault, member_fault, each_fault, granted_fault, section_fault, sections_fault};
-ghost use Rattle.inspect.specs.Faults.{fault_of, fixup_said};
+ghost use Rattle.layout.specs.Refusals.{fault_of};
+ghost use Rattle.inspect.specs.Faults.{fixup_said};
 ghost use Rattle.inspect.specs.Listed.{request_of, job_of, few_job};
 
 use crate::each::{Check, check_each};

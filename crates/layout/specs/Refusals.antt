@@ -47,7 +47,7 @@ abbrev pub told : {A B : Type 0} → (A → B) → Result A BtfError → Answer 
 told means (Ok a) = accepted (means a)
 told means (Err e) = refused (said e)
 
--- what a check says, where it found a fault
-abbrev pub fault_said : Option BtfError → Option Refusal
-fault_said (Some e) = Some (said e)
-fault_said None = None
+-- what a check found, by what its error says
+abbrev pub fault_of : {A E : Type 0} → (E → Refusal) → Result A E → Option Refusal
+fault_of says (Ok a) = None
+fault_of says (Err e) = Some (says e)

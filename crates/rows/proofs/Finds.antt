@@ -7,9 +7,8 @@ use Rattle.layout.specs.declared.kind.BtfKind.{BtfKind}
 use Rattle.meaning.specs.Table.{void}
 use Rattle.meaning.specs.Questions.{find_here, find_from}
 use Rattle.rows.specs.declared.row.TypeRow.{TypeRow}
-use Rattle.rows.specs.declared.view.View.{View}
-use Rattle.rows.specs.Rows.{decl_of}
-use Rattle.rows.specs.Views.{decls}
+use Rattle.elements.specs.declared.Element.{Element}
+use Rattle.rows.specs.Rows.{decl_of, decls_of}
 use Rattle.rows.proofs.Lookups.{decl_found}
 
 -- what a row past the end reads as
@@ -17,19 +16,19 @@ abbrev blank : TypeRow
 blank = record { head = record { name_offset = 0; info = 0; size_or_type = 0; extra = [] }; first = 0 }
 
 -- the search as it was asked is the search from where it has come to
-pub record Searched (v : View) (name : List ℕ) (kind : BtfKind) (whole : Answer ℕ) (at : ℕ) : Type 0 where
-  pub on : whole ≡ find_from (drop at (decls v)) v.strings.now name kind at
+pub record Searched (rows : List TypeRow) (es : List Element) (strings name : List ℕ) (kind : BtfKind) (whole : Answer ℕ) (at : ℕ) : Type 0 where
+  pub on : whole ≡ find_from (drop at (decls_of es rows)) strings name kind at
 
-module _ {v : View} {name : List ℕ} {kind : BtfKind} {whole : Answer ℕ} {at : ℕ} (far : Searched v name kind whole at) where
-  module _ (there : at < length v.rows.now) where
+module _ {rows : List TypeRow} {es : List Element} {strings name : List ℕ} {kind : BtfKind} {whole : Answer ℕ} {at : ℕ} (far : Searched rows es strings name kind whole at) where
+  module _ (there : at < length rows) where
     abbrev pub here : Answer ℕ → Answer ℕ
-    here rest = find_here (decl_of v.elements.now (get_or v.rows.now at blank)) v.strings.now name kind at rest
+    here rest = find_here (decl_of es (get_or rows at blank)) strings name kind at rest
 
-    find_more : whole ≡ here (find_from (drop (at + 1) (decls v)) v.strings.now name kind (at + 1))
+    find_more : whole ≡ here (find_from (drop (at + 1) (decls_of es rows)) strings name kind (at + 1))
     find_more =
         far.on ∙
-        at_drop_more (λ l. find_from l v.strings.now name kind at) (decls v) at void (simp length-map there) ∙
-        ap (λ x. find_here x v.strings.now name kind at (find_from (drop (at + 1) (decls v)) v.strings.now name kind (at + 1))) (decl_found v.rows.now v.elements.now at blank there)
+        at_drop_more (λ l. find_from l strings name kind at) (decls_of es rows) at void (simp length-map there) ∙
+        ap (λ x. find_here x strings name kind at (find_from (drop (at + 1) (decls_of es rows)) strings name kind (at + 1))) (decl_found rows es at blank there)
 
     pub find_stops : (r : Refusal) → ((rest : Answer ℕ) → refused r ≡ here rest) → refused r ≡ whole
     find_stops r e = e _ ∙ sym find_more
@@ -37,5 +36,5 @@ module _ {v : View} {name : List ℕ} {kind : BtfKind} {whole : Answer ℕ} {at 
     pub find_ends : ((rest : Answer ℕ) → accepted at ≡ here rest) → accepted at ≡ whole
     find_ends e = e _ ∙ sym find_more
 
-    pub find_onward : ((rest : Answer ℕ) → rest ≡ here rest) → Searched v name kind whole (at + 1)
+    pub find_onward : ((rest : Answer ℕ) → rest ≡ here rest) → Searched rows es strings name kind whole (at + 1)
     find_onward e = record { on = find_more ∙ sym (e _) }

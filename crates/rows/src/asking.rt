@@ -1,10 +1,11 @@
 // The questions that are answered by one declaration or by a search.
-ghost use Rattle.std.specs.Prelude.{◌≡◌, ℕ, ◌≤◌, length, take, drop};
+ghost use Rattle.std.specs.Prelude.{◌≡◌, ℕ, ◌≤◌, List, length, take, drop};
 ghost use Rattle.layout.specs.Info.{elements_of};
 ghost use Rattle.layout.specs.Refusals.{told, Answer};
 ghost use Rattle.meaning.specs.Questions.{string_at, type_by_id, element_at, element_of, type_name, find_here, find_from};
-ghost use Rattle.rows.specs.Rows.{decl_of, row_at};
-ghost use Rattle.rows.specs.Views.{decls, few_decls};
+ghost use Rattle.rows.specs.Rows.{decl_of, decls_of, row_at};
+ghost use Rattle.elements.specs.declared.Element.{Element as element_type};
+ghost use Rattle.rows.specs.Views.{decls};
 ghost use Rattle.rows.specs.Walks.{verdict};
 ghost use Rattle.meaning.specs.Table.{most_decls};
 
@@ -47,7 +48,7 @@ impl<'t, 's> View<'t, 's> {
 
     // The head of a declaration: all of it but its elements.
     pub fn type_by_id(&self, id: u32) -> Result<BtfType, BtfError>
-        ensures { told (λ h. h) result ≡ type_by_id (decls self.now) id }
+        ensures { (es : List element_type) → told (λ h. h) result ≡ type_by_id (decls_of es self.now.rows.now) id }
     {
         let row = self.row_at(None, id)?;
         Ok(row.head)
@@ -74,7 +75,7 @@ impl<'t, 's> View<'t, 's> {
 
     // The name of a declaration.
     pub fn type_name(&self, id: u32) -> Result<&'s [u8], BtfError>
-        ensures { told (λ s. s.now) result ≡ type_name (decls self.now) self.now.strings.now id }
+        ensures { (es : List element_type) → told (λ s. s.now) result ≡ type_name (decls_of es self.now.rows.now) self.now.strings.now id }
     {
         let row = self.row_at(None, id)?;
         self.string_at(Some(id), row.head.name_offset)
@@ -82,14 +83,14 @@ impl<'t, 's> View<'t, 's> {
 
     // The lowest id of a kind and name.
     pub fn id_by_type_name_kind(&self, name: &[u8], kind: BtfKind) -> Result<u32, BtfError>
-        ensures { told (λ n. n) result ≡ find_from (few_decls self.now) self.now.strings.now name.now kind 0 }
+        ensures { (es : List element_type) → told (λ n. n) result ≡ find_from (decls_of es (take most_decls self.now.rows.now)) self.now.strings.now name.now kind 0 }
     {
         self.limited().search(name, kind)
     }
 
     fn search(&self, name: &[u8], kind: BtfKind) -> Result<u32, BtfError>
         requires { length self.now.rows.now ≤ most_decls }
-        ensures { told (λ n. n) result ≡ find_from (decls self.now) self.now.strings.now name.now kind 0 }
+        ensures { (es : List element_type) → told (λ n. n) result ≡ find_from (decls_of es self.now.rows.now) self.now.strings.now name.now kind 0 }
     {
         for (at, row) in self.rows.iter().enumerate() {
             let id = at as u32;
@@ -102,7 +103,7 @@ impl<'t, 's> View<'t, 's> {
 
     // Whether a row has the kind and the name.
     fn is_named(&self, row: &TypeRow, id: u32, name: &[u8], kind: BtfKind) -> Result<bool, BtfError>
-        ensures { (rest : Answer ℕ) → verdict id rest (told (λ b. b) result) ≡ find_here (decl_of self.now.elements.now row.now) self.now.strings.now name.now kind id rest }
+        ensures { (es : List element_type) (rest : Answer ℕ) → verdict id rest (told (λ b. b) result) ≡ find_here (decl_of es row.now) self.now.strings.now name.now kind id rest }
     {
         if row.head.kind() != kind {
             return Ok(false);

@@ -9,4 +9,4 @@ mod walking;
 
 pub use row::TypeRow;
 pub use text::{name_length, same_bytes, string_from};
-pub use view::View;
+pub use view::{MOST_DECLARATIONS, View};

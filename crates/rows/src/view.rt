@@ -6,7 +6,7 @@ use crate::row::TypeRow;
 use elements::Element;
 
 // A table has no more declarations than this.
-const MOST_DECLARATIONS: usize = 1_048_575;
+pub const MOST_DECLARATIONS: usize = 1_048_575;
 
 // A table as it is asked: its rows, its elements and its strings. The strings have a lifetime of their own, so that
 // a name may outlive the borrow of the table.

@@ -5,8 +5,7 @@ ghost use Rattle.layout.specs.Refusals.{told};
 ghost use Rattle.elements.specs.declared.Element.{Element as element_type};
 ghost use Rattle.meaning.specs.Table.{Decl};
 ghost use Rattle.meaning.specs.Questions.{Move, walk, most_reads, resolve_type, type_size, resolving, measuring};
-ghost use Rattle.rows.specs.Rows.{decl_of};
-ghost use Rattle.rows.specs.Views.{decls};
+ghost use Rattle.rows.specs.Rows.{decl_of, decls_of};
 ghost use Rattle.rows.specs.Walks.{move_of, word_of};
 
 use crate::row::TypeRow;
@@ -114,7 +113,7 @@ fn word_of(type_id: u32, product: u64) -> Result<u32, BtfError>
 impl View<'_, '_> {
     // The end of an id, and how many links were followed to it.
     pub fn resolve_type(&self, id: u32) -> Result<(u32, u32), BtfError>
-        ensures answer { told (λ p. (p.0, p.1)) result ≡ resolve_type (decls self.now) id }
+        ensures answer { (es : List element_type) → told (λ p. (p.0, p.1)) result ≡ resolve_type (decls_of es self.now.rows.now) id }
         ensures short { IfOk result (λ p. p.1 < 32) }
     {
         self.walk(&Resolving, id, ())
@@ -122,7 +121,7 @@ impl View<'_, '_> {
 
     // The size of an id, and how many links were followed to what has it.
     pub fn type_size(&self, id: u32, width: PointerWidth) -> Result<(u32, u32), BtfError>
-        ensures answer { told (λ p. (p.0, p.1)) result ≡ type_size (pointer_bytes width) (decls self.now) id }
+        ensures answer { (es : List element_type) → told (λ p. (p.0, p.1)) result ≡ type_size (pointer_bytes width) (decls_of es self.now.rows.now) id }
         ensures short { IfOk result (λ p. p.1 < 32) }
     {
         self.walk(&Measuring { width }, id, 1)
@@ -130,7 +129,7 @@ impl View<'_, '_> {
 
     // It reads at most 32 declarations: the count of links is carried in the result and equals the definition's, at most 31.
     fn walk<W: Walk>(&self, kind: &W, id: u32, start: W::Carried) -> Result<(u32, u32), BtfError>
-        ensures answer { told (λ p. (p.0, p.1)) result ≡ walk (W.look kind.now) most_reads (decls self.now) id None start id 0 }
+        ensures answer { (es : List element_type) → told (λ p. (p.0, p.1)) result ≡ walk (W.look kind.now) most_reads (decls_of es self.now.rows.now) id None start id 0 }
         ensures short { IfOk result (λ p. p.1 < 32) }
     {
         let mut at = id;

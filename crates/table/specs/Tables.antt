@@ -1,8 +1,8 @@
 -- The table that a `Btf` and a string area mean, and what adding leaves in the areas.
-use Rattle.std.specs.Prelude.{◌≡◌, ℕ, ◌+◌, List, map, length, take, Some, None, Ok, Err, Option, Result, slice_set}
+use Rattle.std.specs.Prelude.{◌≡◌, ℕ, ◌+◌, List, map, length, take, Result, slice_set}
 use Rattle.layout.specs.Kinds.{kind_at}
 use Rattle.layout.specs.Heads.{head_kept}
-use Rattle.layout.specs.Refusals.{Refusal, said, told}
+use Rattle.layout.specs.Refusals.{told}
 use Rattle.layout.specs.declared.declaration.Declaration.{Declaration}
 use Rattle.layout.specs.declared.head.BtfType.{BtfType}
 use Rattle.layout.specs.declared.error.BtfError.{BtfError}
@@ -45,11 +45,6 @@ in_use s area = record { rows = used_rows s; elements = s.elements.now; strings 
 -- what an adding answered, and the table that it left
 abbrev pub outcome : Result ℕ BtfError → Btf → List ℕ → Outcome ℕ
 outcome r s area = record { answer = told (λ n. n) r; later = table_of s area }
-
--- what a check refuses, where it does
-abbrev pub fault_of : {A : Type 0} → Result A BtfError → Option Refusal
-fault_of (Ok a) = None
-fault_of (Err e) = Some (said e)
 
 -- a declaration with its elements, put behind the others
 pub record Put (s t : Btf) (head : BtfType) (new : List Element) : Type 0 where

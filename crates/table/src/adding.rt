@@ -4,20 +4,19 @@ ghost use Rattle.layout.specs.Info.{elements_of};
 ghost use Rattle.layout.specs.Kinds.{kind_at};
 ghost use Rattle.elements.specs.Packing.{packed};
 ghost use Rattle.meaning.specs.Table.{most_decls, most_elements};
+ghost use Rattle.layout.specs.Refusals.{said, fault_of};
 ghost use Rattle.meaning.specs.Adding.{add_string, add_type, declaration_fault, room_fault};
-ghost use Rattle.table.specs.Tables.{table_of, outcome, fault_of, with_row, with_elements, Put};
+ghost use Rattle.table.specs.Tables.{table_of, outcome, with_row, with_elements, Put};
 
 use crate::btf::Btf;
 use crate::placing::{put_name, put_tail};
 use elements::ElementType;
 use layout::{Area, BtfError, BtfKind, BtfType, Declaration};
-use rows::{TypeRow, name_length};
+use rows::{MOST_DECLARATIONS, TypeRow, name_length};
 
-const MOST_DECLARATIONS: usize = 1_048_575;
+pub const MOST_ELEMENTS: usize = 2_097_152;
 
-const MOST_ELEMENTS: usize = 2_097_152;
-
-const MOST_STRINGS: usize = 16_777_215;
+pub const MOST_STRINGS: usize = 16_777_215;
 
 // The elements that one declaration may have.
 const MOST_TAIL: usize = 65535;
@@ -29,7 +28,7 @@ fn declared_kind<E: ElementType>(
     declaration: &Declaration,
     count: usize,
 ) -> Result<BtfKind, BtfError>
-    ensures fault { fault_of result ≡ declaration_fault declaration.now E.serving count }
+    ensures fault { fault_of said result ≡ declaration_fault declaration.now E.serving count }
     ensures kind { IfOk result (λ kind. kind ≡ kind_at declaration.now.kind) }
 {
     let kind = BtfKind::from(declaration.kind);
@@ -96,7 +95,7 @@ impl Btf<'_> {
 
     // Refuses where there is no room for one declaration and `count` elements more.
     fn check_room(&self, count: usize) -> Result<(), BtfError>
-        ensures { (strings : List ℕ) → fault_of result ≡ room_fault (table_of self.now strings) count }
+        ensures { (strings : List ℕ) → fault_of said result ≡ room_fault (table_of self.now strings) count }
     {
         if self.types.len().min(MOST_DECLARATIONS) <= self.type_count {
             return Err(BtfError::NoRoom {

@@ -9,5 +9,6 @@ mod making;
 mod placing;
 mod writer;
 
+pub use adding::{MOST_ELEMENTS, MOST_STRINGS};
 pub use btf::Btf;
-pub use rows::TypeRow;
+pub use rows::{MOST_DECLARATIONS, TypeRow};

@@ -17,7 +17,7 @@ returns c =
     let few = s.few in
     let all : take 1048575 (used_rows s) ≡ used_rows s = take_all 1048575 (used_rows s) (omega (arith, length-take s.type_count s.types.now)) in
     let view = asked_held t _ _ c.in_ok-view.ensures in
-    c.id_by_type_name_kind.ensures ∙
+    c.id_by_type_name_kind.ensures c.in_ok-view.field-0.elements.now ∙
     ap (λ (x : Seen). find_from (map (decl_of x.elements) (take 1048575 x.rows)) x.strings name c.args.kind 0) view.1 ∙
     ap (λ rows. find_from (map (decl_of s.elements.now) rows) (take s.string_len c.args.strings.now) name c.args.kind 0) all ∙
     ap (λ h. cond (not h) (refused no_table) (find_from t.decls (take s.string_len c.args.strings.now) name c.args.kind 0)) (sym view.0)
