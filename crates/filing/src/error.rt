@@ -8,7 +8,7 @@ use thiserror::Error;
 
 #[derive(Clone, Copy, Debug, PartialEq, Eq, Error)]
 pub enum FilingError {
-    #[error("the table refused, by number {number}", number = .0.number())]
+    #[error("the table {0}")]
     Table(BtfError),
     #[error("no memory is left")]
     Memory,

@@ -4,7 +4,8 @@ ghost use Rattle.rows.specs.Rows.{void_row};
 
 use layout::BtfType;
 
-// A declaration as the table keeps it: its head, and where its elements begin in the element area.
+// A declaration as the table keeps it: its head, and where its elements begin in the element area. It is a place and no
+// slice, since the caller lends both areas and they are filled further while the row stands.
 #[derive(Clone, Copy, Debug, PartialEq, Eq)]
 pub struct TypeRow {
     pub head: BtfType,
