@@ -11,12 +11,14 @@ ghost use Rattle.std.proofs.Common.{rules};
 
 use layout::BtfKind;
 
-// An element as the table keeps it, its words in order; places past its last word hold 0.
+// An element as the table keeps it, its words in order; places past its last word hold 0. The area is the caller's, so all
+// elements are of one size.
 #[derive(Clone, Copy, Debug, PartialEq, Eq)]
 pub struct Element {
     words: [u32; 3],
 }
 
+// One impl for each type: which kinds it serves and how its fields are packed is all that an impl says, and the laws are found.
 // A type of elements means its words: unlike elements have unlike words, and all have equally many, at least
 // one, as many as the elements of each kind that it serves.
 pub trait ElementType {
@@ -229,7 +231,7 @@ pub enum BtfElement {
 }
 
 impl Element {
-    // What fills an area before a table is made over it.
+    // What fills an area before a table is made over it, a name that says more than `Default`.
     pub fn empty() -> Element
         ensures { result ≡ packed [] }
     {

@@ -50,7 +50,8 @@ pub trait FeatureSource {
         ensures once { asked self.old feature self.new };
 }
 
-// A set of features: bit n is set where the feature of number n is in the set.
+// A set of features: bit n is set where the feature of number n is in the set. No `bitflags`: a feature is asked for by its
+// value, of which flags would need a second enum.
 #[derive(Clone, Copy, Debug, PartialEq, Eq)]
 pub struct FeatureSet {
     bits: u8,
@@ -116,7 +117,7 @@ impl<'a> FeatureSource for RefusedFeatures<'a> {
     }
 }
 
-// The kept answers, one for each feature that was asked for.
+// The kept answers, one for each feature that was asked for; by a rule of the library a plain struct of eight.
 #[derive(Clone, Copy, Debug, Default)]
 struct Answers {
     func: Option<bool>,

@@ -57,7 +57,7 @@ impl Declaration {
     {
         match kind {
             BtfKind::Int | BtfKind::DeclTag => [self.extra[0], 0, 0],
-            BtfKind::Array => [self.extra[0], self.extra[1], self.extra[2]],
+            BtfKind::Array => self.extra,
             BtfKind::Var => [self.linkage, 0, 0],
             _ => [0, 0, 0],
         }

@@ -183,6 +183,7 @@ fn mark(others: bool) -> &'static str
     if others { "," } else { ":" }
 }
 
+// By hand, since a derive states no text.
 impl fmt::Display for BtfError {
     ghost output = { λ e. Some (shown e) };
 

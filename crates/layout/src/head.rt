@@ -35,7 +35,7 @@ impl BtfType {
     pub fn kind(&self) -> BtfKind
         ensures { result ≡ kind_of self.now.info }
     {
-        BtfKind::from((self.info >> KIND_SHIFT) & KIND_MASK)
+        BtfKind::from(self.kind_number())
     }
 
     // The number that the info word has for the kind, which may be no kind's.

@@ -1,6 +1,9 @@
 // The kinds of declarations, and what a declaration of each is made of.
-ghost use Rattle.std.specs.Prelude.{◌≡◌};
+ghost use Rattle.std.specs.Prelude.{◌≡◌, Some};
+ghost use Rattle.layout.specs.Shown.{kind_word};
 ghost use Rattle.layout.specs.Kinds.{kind_number, kind_at, takes_flag, has_linkage, extra_words, element_words};
+
+use std::fmt;
 
 #[derive(Clone, Copy, Debug, PartialEq, Eq)]
 pub enum BtfKind {
@@ -26,7 +29,7 @@ pub enum BtfKind {
     Enum64 = 19,
 }
 
-// The kind of a number, Unknown where no kind has it.
+// The kind of a number, Unknown where no kind has it: an info word may hold any number, and reading it cannot fail.
 impl From<u32> for BtfKind {
     ghost from_gives = { λ n kind. kind ≡ kind_at n };
 
@@ -61,6 +64,36 @@ impl From<BtfKind> for u32 {
 
     fn from(kind: BtfKind) -> u32 {
         kind as u32
+    }
+}
+
+// The kernel's word for the kind.
+impl fmt::Display for BtfKind {
+    ghost output = { λ kind. Some (kind_word kind) };
+
+    fn fmt<W: fmt::Write>(&self, f: &mut fmt::Formatter<W>) -> fmt::Result {
+        f.write_str(match self {
+            BtfKind::Unknown => "VOID",
+            BtfKind::Int => "INT",
+            BtfKind::Ptr => "PTR",
+            BtfKind::Array => "ARRAY",
+            BtfKind::Struct => "STRUCT",
+            BtfKind::Union => "UNION",
+            BtfKind::Enum => "ENUM",
+            BtfKind::Fwd => "FWD",
+            BtfKind::Typedef => "TYPEDEF",
+            BtfKind::Volatile => "VOLATILE",
+            BtfKind::Const => "CONST",
+            BtfKind::Restrict => "RESTRICT",
+            BtfKind::Func => "FUNC",
+            BtfKind::FuncProto => "FUNC_PROTO",
+            BtfKind::Var => "VAR",
+            BtfKind::DataSec => "DATASEC",
+            BtfKind::Float => "FLOAT",
+            BtfKind::DeclTag => "DECL_TAG",
+            BtfKind::TypeTag => "TYPE_TAG",
+            BtfKind::Enum64 => "ENUM64",
+        })
     }
 }
 

@@ -1,4 +1,5 @@
-// The two byte orders that are built, by their words.
+// The two byte orders that are built, by their words. It is no `ByteOrder` itself: that trait means one order for a type, and
+// would have to mean one for a value to be fit for this enum alone.
 ghost use Rattle.std.specs.Prelude.{◌≡◌, Some, MatchResult, codes};
 ghost use Rattle.order.specs.Endian.{order_word, NamesNoOrder};
 
@@ -26,6 +27,7 @@ impl fmt::Display for Endian {
 #[derive(Clone, Copy, Debug, PartialEq, Eq)]
 pub struct UnknownEndian;
 
+// By hand, since a derive states no text.
 impl fmt::Display for UnknownEndian {
     ghost output = { λ _. Some (codes "the byte order is neither little nor big") };
 
