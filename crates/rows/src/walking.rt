@@ -107,8 +107,8 @@ fn word_of(type_id: u32, product: u64) -> Result<u32, BtfError>
 }
 
 impl View<'_, '_> {
-    // The end of an id, and how many links were followed to it. By a rule of the library, an end or a size and the links
-    // followed are a pair.
+    // The end of an id, and how many links were followed to it.
+    // By a rule of the library, an end or a size and the links followed are a pair, whose bound its three contracts state.
     pub fn resolve_type(&self, id: u32) -> Result<(u32, u32), BtfError>
         ensures answer { (es : List element_type) → told (λ p. (p.0, p.1)) result ≡ resolve_type (decls_of es self.now.rows.now) id }
         ensures short { IfOk result (λ p. p.1 < 32) }
