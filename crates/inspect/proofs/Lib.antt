@@ -1,3 +1,4 @@
 mod Faults
+mod Limits
 mod Numbers
 mod Standing

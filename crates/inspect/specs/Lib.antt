@@ -2,3 +2,4 @@ pub mod Ends
 pub mod Listed
 pub mod Faults
 pub mod Shown
+pub mod Sourced

@@ -33,7 +33,7 @@ impl Closing<'_> {
         }
     }
 
-    // Refusal 6 where no name stands at an offset.
+    // Refusal 6 where no name stands at an offset. Holder and element are two parameters, as they are two parts of a refusal.
     fn check_name(&self, holder: u32, element: Option<u32>, offset: u32) -> Result<(), BtfError>
         ensures { fault_of said result ≡ name_fault self.now.view.strings.now holder element offset }
     {

@@ -8,6 +8,7 @@ use layout::BtfError;
 use std::error::Error;
 use std::fmt;
 
+// Its four methods are those of BtfError, to which each case here adds its own.
 #[derive(Clone, Copy, Debug, PartialEq, Eq)]
 pub enum FixupError {
     // What the table itself refuses.
@@ -96,6 +97,7 @@ impl FixupError {
     }
 }
 
+// By hand, since thiserror's derive states no text.
 impl fmt::Display for FixupError {
     ghost output = { λ e. Some (fixup_shown e) };
 

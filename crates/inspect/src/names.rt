@@ -8,6 +8,7 @@ ghost use Rattle.inspect.specs.Listed.{listed};
 use rows::{same_bytes, string_from};
 
 // A row of a caller's list: its name is a part of the name bytes, its number a section's size or a symbol's offset.
+// By a rule of the library, a row gives its name by start and length.
 #[derive(Clone, Copy, Debug, PartialEq, Eq)]
 pub struct NamedRow {
     pub start: usize,
@@ -42,7 +43,7 @@ fn row_of<'r>(rows: &'r [NamedRow], names: &[u8], name: &[u8]) -> Option<&'r Nam
     rows.iter().find(|row| row.gives(names, name))
 }
 
-// The number of the first row of a name.
+// The number of the first row of a name: no method of Lists, since the rows are either list's.
 pub fn number_of(rows: &[NamedRow], names: &[u8], name: &[u8]) -> Option<u64>
     ensures { result ≡ number_of names.now (map listed rows.now) name.now }
 {

@@ -1,16 +1,18 @@
 // What may be missing or too large for the rules on sections.
-ghost use Rattle.std.specs.Prelude.{◌≡◌, Bool, true, take, None};
+ghost use Rattle.std.specs.Prelude.{◌≡◌, ◌==◌, Bool, cond, take, None};
 ghost use Rattle.features.specs.declared.BtfFeature.{BtfFeature};
 ghost use Rattle.features.specs.declared.BtfFeature.TheVariants.{DataSec};
 ghost use Rattle.layout.specs.Info.{kind_of};
+ghost use Rattle.layout.specs.Kinds.{kind_number};
 ghost use Rattle.layout.specs.declared.kind.BtfKind.TheVariants.{DataSec as Section};
 ghost use Rattle.rows.specs.Rows.{decl_of};
-ghost use Rattle.rewriting.specs.Requests.{section_number};
+ghost use Rattle.rewriting.specs.Requests.{section_number, symbol_number};
 ghost use Rattle.rewriting.specs.Rules.{name_at};
 ghost use Rattle.rewriting.specs.Sections.{too_large, needed, symbol_fault, entry_fault, member_fault, each_fault, granted_fault, section_fault, sections_fault};
 ghost use Rattle.layout.specs.Refusals.{fault_of};
 ghost use Rattle.inspect.specs.Faults.{fixup_said};
-ghost use Rattle.inspect.specs.Listed.{request_of, job_of, few_job};
+ghost use Rattle.inspect.specs.Listed.{request_of, few_job};
+ghost use Rattle.inspect.specs.Sourced.{sources_job};
 
 use crate::each::{Check, check_each};
 use crate::error::FixupError;
@@ -19,6 +21,7 @@ use elements::Element;
 use layout::{BtfKind, Linkage};
 use rows::{TypeRow, View};
 
+// The declaration, the element and the value are handed in one by one, as the parts of a refusal.
 fn check_word(section: u32, entry: Option<u32>, number: u64) -> Result<(), FixupError>
     ensures { fault_of fixup_said result ≡ too_large section entry number }
 {
@@ -55,29 +58,53 @@ impl Check for Members {
     }
 }
 
+// What is read of the table and of the caller's lists.
+#[derive(Clone, Copy)]
+struct Sources<'c> {
+    view: View<'c, 'c>,
+    lists: Lists<'c>,
+}
+
+impl Sources<'_> {
+    // The size of the section whose name stands at an offset.
+    fn section_size(&self, name_offset: u32) -> Option<u64>
+        ensures { result ≡ section_number (sources_job self.now) (name_at (sources_job self.now) name_offset) }
+    {
+        let name = name_at(self.view.strings, name_offset);
+        number_of(self.lists.sections, self.lists.names, name)
+    }
+
+    // The offset of the symbol whose name stands at an offset.
+    fn symbol_offset(&self, name_offset: u32) -> Option<u64>
+        ensures { result ≡ symbol_number (sources_job self.now) (name_at (sources_job self.now) name_offset) }
+    {
+        let name = name_at(self.view.strings, name_offset);
+        number_of(self.lists.symbols, self.lists.names, name)
+    }
+}
+
 // Sections granted: the entries of a section stay.
 #[derive(Clone, Copy)]
 struct Entries<'c> {
-    view: View<'c, 'c>,
-    lists: Lists<'c>,
+    sources: Sources<'c>,
     section: u32,
 }
 
 impl Entries<'_> {
     // A variable that is not static has a symbol.
     fn check_symbol(&self, var: &TypeRow, entry: u32) -> Result<(), FixupError>
-        ensures { fault_of fixup_said result ≡ symbol_fault (job_of self.now.view (request_of self.now.lists (λ _. true))) self.now.section entry (decl_of self.now.view.elements.now var.now) }
+        ensures { fault_of fixup_said result ≡ symbol_fault (sources_job self.now.sources) self.now.section entry (decl_of self.now.sources.view.elements.now var.now) }
     {
         if var.head.extra[0] == u32::from(Linkage::Static) {
             return Ok(());
         }
-        let name = name_at(self.view.strings, var.head.name_offset);
-        let offset = number_of(self.lists.symbols, self.lists.names, name).ok_or(
-            FixupError::SymbolOffsetNotFound {
+        let offset = self
+            .sources
+            .symbol_offset(var.head.name_offset)
+            .ok_or(FixupError::SymbolOffsetNotFound {
                 section: self.section,
                 entry,
-            },
-        )?;
+            })?;
         check_word(self.section, Some(entry), offset)
     }
 }
@@ -87,14 +114,14 @@ impl Check for Entries<'_> {
 
     type Fault = FixupError;
 
-    ghost fault = { λ c entry element. entry_fault (job_of c.view (request_of c.lists (λ _. true))) c.section entry (take 3 element.words) };
+    ghost fault = { λ c entry element. entry_fault (sources_job c.sources) c.section entry (take 3 element.words) };
 
     ghost said = { fixup_said };
 
     // An entry is a variable's.
     fn check(&self, entry: u32, element: &Element) -> Result<(), FixupError> {
         let [type_id, _, _] = *element.words();
-        match self.view.rows.get(type_id as usize) {
+        match self.sources.view.rows.get(type_id as usize) {
             Some(var) if var.head.kind() == BtfKind::Var => self.check_symbol(var, entry),
             _ => Err(FixupError::InvalidDatasec {
                 section: self.section,
@@ -105,58 +132,47 @@ impl Check for Entries<'_> {
     }
 }
 
-// The sections of a table, and whether sections are granted.
+// The sections of a table where sections are granted.
 #[derive(Clone, Copy)]
-struct Sections<'c> {
-    view: View<'c, 'c>,
-    lists: Lists<'c>,
-    granted: bool,
+struct Granted<'c> {
+    sources: Sources<'c>,
 }
 
-impl Sections<'_> {
+impl Granted<'_> {
     // The row of a section's name, which gives its size.
     fn check_size(&self, row: &TypeRow, section: u32) -> Result<(), FixupError>
-        ensures { fault_of fixup_said result ≡ needed 12 section None (section_number (job_of self.now.view (request_of self.now.lists (λ _. true))) (name_at (job_of self.now.view (request_of self.now.lists (λ _. true))) row.now.head.name_offset)) }
+        ensures { fault_of fixup_said result ≡ needed 12 section None (section_number (sources_job self.now.sources) (name_at (sources_job self.now.sources) row.now.head.name_offset)) }
     {
-        let name = name_at(self.view.strings, row.head.name_offset);
-        let size = number_of(self.lists.sections, self.lists.names, name).ok_or(
-            FixupError::UnknownSectionSize { section },
-        )?;
+        let size = self
+            .sources
+            .section_size(row.head.name_offset)
+            .ok_or(FixupError::UnknownSectionSize { section })?;
         check_word(section, None, size)
     }
 
-    // Sections granted: a section with a size of its own needs no row, and its entries are not read.
-    fn check_granted(&self, row: &TypeRow, section: u32) -> Result<(), FixupError>
+    // A section with a size of its own needs no row, and its entries are not read.
+    fn check_section(&self, row: &TypeRow, section: u32) -> Result<(), FixupError>
         requires { kind_of row.now.head.info ≡ Section }
-        ensures { fault_of fixup_said result ≡ granted_fault (job_of self.now.view (request_of self.now.lists (λ _. true))) section (decl_of self.now.view.elements.now row.now) }
+        ensures { fault_of fixup_said result ≡ granted_fault (sources_job self.now.sources) section (decl_of self.now.sources.view.elements.now row.now) }
     {
         if 0 < row.head.size_or_type {
             return Ok(());
         }
         self.check_size(row, section)?;
         let entries = Entries {
-            view: self.view,
-            lists: self.lists,
+            sources: self.sources,
             section,
         };
-        check_each(&entries, self.view.tail(row))
-    }
-
-    // Sections refused: all entries are read.
-    fn check_refused(&self, row: &TypeRow, section: u32) -> Result<(), FixupError>
-        requires { kind_of row.now.head.info ≡ Section }
-        ensures { fault_of fixup_said result ≡ each_fault (member_fault section) 0 (decl_of self.now.view.elements.now row.now).tail }
-    {
-        check_each(&Members { section }, self.view.tail(row))
+        check_each(&entries, self.sources.view.tail(row))
     }
 }
 
-impl Check for Sections<'_> {
+impl Check for Granted<'_> {
     type Item = TypeRow;
 
     type Fault = FixupError;
 
-    ghost fault = { λ c id row. section_fault (job_of c.view (request_of c.lists (λ _. c.granted))) id (decl_of c.view.elements.now row) };
+    ghost fault = { λ c id row. section_fault (sources_job c.sources) id (decl_of c.sources.view.elements.now row) };
 
     ghost said = { fixup_said };
 
@@ -164,11 +180,40 @@ impl Check for Sections<'_> {
         if row.head.kind() != BtfKind::DataSec {
             return Ok(());
         }
-        if self.granted {
-            self.check_granted(row, id)
-        } else {
-            self.check_refused(row, id)
+        self.check_section(row, id)
+    }
+}
+
+// The sections of a table where sections are refused.
+#[derive(Clone, Copy)]
+struct Refused<'c> {
+    view: View<'c, 'c>,
+}
+
+impl Refused<'_> {
+    // All entries are read.
+    fn check_section(&self, row: &TypeRow, section: u32) -> Result<(), FixupError>
+        requires { kind_of row.now.head.info ≡ Section }
+        ensures { fault_of fixup_said result ≡ each_fault (member_fault section) 0 (decl_of self.now.view.elements.now row.now).tail }
+    {
+        check_each(&Members { section }, self.view.tail(row))
+    }
+}
+
+impl Check for Refused<'_> {
+    type Item = TypeRow;
+
+    type Fault = FixupError;
+
+    ghost fault = { λ c id row. cond (kind_number (kind_of row.head.info) == 15) (each_fault (member_fault id) 0 (decl_of c.view.elements.now row).tail) None };
+
+    ghost said = { fixup_said };
+
+    fn check(&self, id: u32, row: &TypeRow) -> Result<(), FixupError> {
+        if row.head.kind() != BtfKind::DataSec {
+            return Ok(());
         }
+        self.check_section(row, id)
     }
 }
 
@@ -177,10 +222,13 @@ pub fn sections_fault(granted: bool, view: &View, lists: &Lists) -> Result<(), F
     ensures { (grants : BtfFeature → Bool) → granted ≡ grants DataSec → fault_of fixup_said result ≡ sections_fault (few_job view.now (request_of lists.now grants)) }
 {
     let view = view.limited();
-    let sections = Sections {
+    let sources = Sources {
         view,
         lists: *lists,
-        granted,
     };
-    check_each(&sections, view.rows)
+    if granted {
+        check_each(&Granted { sources }, view.rows)
+    } else {
+        check_each(&Refused { view }, view.rows)
+    }
 }

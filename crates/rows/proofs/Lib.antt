@@ -1,3 +1,4 @@
 mod Finds
 pub mod Lookups
 mod Paths
+mod Passed

@@ -46,7 +46,7 @@ impl<'t, 's> View<'t, 's> {
         behind.get(..row.head.element_count()).unwrap_or(behind)
     }
 
-    // The head of a declaration: all of it but its elements.
+    // The head of a declaration: all of it but its elements. What reads no elements is stated for every list of them.
     pub fn type_by_id(&self, id: u32) -> Result<BtfType, BtfError>
         ensures { (es : List element_type) → told (λ h. h) result ≡ type_by_id (decls_of es self.now.rows.now) id }
     {

@@ -13,7 +13,7 @@ pub struct TypeRow {
 }
 
 impl TypeRow {
-    // What fills an area before a table is made over it, and id 0.
+    // What fills an area before a table is made over it, and id 0: no Default, since this name says that nothing is there.
     pub fn empty() -> TypeRow
         ensures { result ≡ void_row }
     {

@@ -28,7 +28,7 @@ fn zero_byte(bytes: &[u8]) -> Option<usize>
     bytes.iter().position(|byte| *byte == 0)
 }
 
-// Whether two names have the same bytes.
+// Whether two names have the same bytes: a function by itself, since its clause by bytes_eq is what proofs of callers use.
 pub fn same_bytes(a: &[u8], b: &[u8]) -> bool
     ensures { result ≡ bytes_eq a.now b.now }
 {

@@ -16,6 +16,7 @@ use layout::{BtfError, BtfKind, PointerWidth};
 const MAX_RESOLVE_DEPTH: u32 = 32;
 
 // What a walk does at a declaration: goes on to an id with what it carries, or ends with an answer.
+// No ControlFlow, since its cases have one unnamed value: here the fields name the id and what goes on with it.
 #[derive(Clone, Copy)]
 pub enum Step<S> {
     Onward { id: u32, carried: S },
@@ -74,7 +75,9 @@ impl Walk for Measuring {
     ghost look = { λ walk. measuring (pointer_bytes walk.width) };
 
     fn look(&self, count: u32, id: u32, row: &TypeRow) -> Result<Step<u32>, BtfError> {
-        let third = row.head.size_or_type;
+        if let Some(size) = row.head.size() {
+            return Ok(Step::Ends(word_of(id, u64::from(size) * u64::from(count))?));
+        }
         let [element, _, len] = row.head.extra;
         match row.head.kind() {
             BtfKind::Array => Ok(Step::Onward {
@@ -85,18 +88,11 @@ impl Walk for Measuring {
                 id,
                 u64::from(self.width.bytes()) * u64::from(count),
             )?)),
-            BtfKind::Int
-            | BtfKind::Struct
-            | BtfKind::Union
-            | BtfKind::Enum
-            | BtfKind::DataSec
-            | BtfKind::Float
-            | BtfKind::Enum64 => Ok(Step::Ends(word_of(id, u64::from(third) * u64::from(count))?)),
             BtfKind::Unknown | BtfKind::Fwd | BtfKind::Func | BtfKind::FuncProto => {
                 Err(BtfError::UnexpectedBtfType { type_id: id })
             }
             _ => Ok(Step::Onward {
-                id: third,
+                id: row.head.size_or_type,
                 carried: count,
             }),
         }
@@ -112,6 +108,7 @@ fn word_of(type_id: u32, product: u64) -> Result<u32, BtfError>
 
 impl View<'_, '_> {
     // The end of an id, and how many links were followed to it.
+    // By a rule of the library, an end or a size and the links followed are a pair, whose bound its three contracts state.
     pub fn resolve_type(&self, id: u32) -> Result<(u32, u32), BtfError>
         ensures answer { (es : List element_type) → told (λ p. (p.0, p.1)) result ≡ resolve_type (decls_of es self.now.rows.now) id }
         ensures short { IfOk result (λ p. p.1 < 32) }

@@ -1,5 +1,5 @@
 // Names in which one byte stands for another.
-ghost use Rattle.std.specs.Prelude.{◌≡◌, ◌==◌, not, ℕ, map, is_ok, if◌then◌else◌};
+ghost use Rattle.std.specs.Prelude.{◌≡◌, ◌==◌, ◌+◌, not, ℕ, length, map, is_ok, if◌then◌else◌, nat_lt};
 ghost use Rattle.std.specs.List.{list_any};
 ghost use Rattle.rewriting.specs.Rules.{dotted, underscored};
 ghost use Rattle.spelling.specs.Names.{changes, fits, respelled};
@@ -51,7 +51,7 @@ pub fn changes<S: Spelling>(name: &[u8]) -> bool
     changes_byte::<S>(name)
 }
 
-// Whether a spelling changes a byte of a name.
+// Whether a spelling changes a byte of a name: a function by itself, since only its clause by list_any meets the chain.
 fn changes_byte<S: Spelling>(name: &[u8]) -> bool
     ensures { result ≡ list_any (λ b. not (S.Spelling.spells b == b)) name.now }
 {
@@ -60,6 +60,7 @@ fn changes_byte<S: Spelling>(name: &[u8]) -> bool
 
 // Writes the name of `count` bytes at `from` spelled anew to `at`, and a zero byte behind it: not where the name reaches
 // past `at`, or the area ends too soon. The rest of the area is left as it was.
+// `from` and `count` are two numbers as in the clause: a Range could also end before it begins.
 pub fn put_respelled<S: Spelling>(
     area: &mut [u8],
     at: usize,
@@ -69,13 +70,20 @@ pub fn put_respelled<S: Spelling>(
     ensures answer { is_ok result ≡ fits area.old at from count }
     ensures area { area.new ≡ (if is_ok result then respelled S.Spelling.spells area.old at from count else area.old) }
 {
-    if at < from || at - from < count || area.len() < at || area.len() - at <= count {
+    if at < from || at - from < count || !has_room(area, at, count) {
         return Err(DoesNotFit);
     }
     area.copy_within(from..from + count, at);
     spell_anew::<S>(&mut area[at..at + count]);
     area[at + count] = 0;
     Ok(())
+}
+
+// Whether a name of `len` bytes and a zero byte behind it have room at `at`.
+pub(crate) fn has_room(area: &[u8], at: usize, len: usize) -> bool
+    ensures { result ≡ nat_lt (at + len) (length area.now) }
+{
+    at <= area.len() && len < area.len() - at
 }
 
 fn spell_anew<S: Spelling>(name: &mut [u8])

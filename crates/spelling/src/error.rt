@@ -8,6 +8,7 @@ use std::fmt;
 #[derive(Clone, Copy, Debug, PartialEq, Eq)]
 pub struct DoesNotFit;
 
+// By hand, since thiserror's derive states no text.
 impl fmt::Display for DoesNotFit {
     ghost output = { λ _. Some (codes "the name does not fit there") };
 

@@ -3,6 +3,7 @@ ghost use Rattle.std.specs.Prelude.{◌≡◌, ◌+◌, [], ◌∷◌, ◌++◌,
 ghost use Rattle.meaning.specs.Adding.{over};
 ghost use Rattle.rewriting.specs.Rules.{param_name};
 
+use crate::bytes::has_room;
 use crate::error::DoesNotFit;
 use itoa::Buffer;
 
@@ -22,7 +23,7 @@ pub fn put_param(area: &mut [u8], at: usize, index: u32) -> Result<(), DoesNotFi
     let mut buffer = Buffer::new();
     let digits = buffer.format(index).as_bytes();
     let len = 5 + digits.len();
-    if area.len() < at || area.len() - at <= len {
+    if !has_room(area, at, len) {
         return Err(DoesNotFit);
     }
     area[at..at + 5].copy_from_slice(b"param");

@@ -1,18 +1,18 @@
-use Rattle.std.proofs.Common.{ap, ◌∙◌}
-use Rattle.rows.specs.Rows.{decls_of}
-use Rattle.rows.specs.Views.{decls}
-use Rattle.rewriting.specs.Sections.{sections_fault}
-use Rattle.inspect.specs.Listed.{request_of}
+use Rattle.std.proofs.Common.{true, false, sym, ◌∙◌}
 use Rattle.inspect.proofs.Faults.{first_section}
+use Rattle.inspect.proofs.Limits.{limited_sections}
 use Rattle.inspect.proofs.sections.sections_fault.Goals as goal
 
-pub returns : goal.returns
-returns c grants same =
+pub returns-then-granted : goal.returns-then-granted
+returns-then-granted c grants same =
     let v = c.limited-view.result in
-    let given = c.args.view.now in
-    let q = request_of c.args.lists.now grants in
     c.check_each.ensures ∙
-    first_section v c.args.lists.now (λ _. c.args.granted) grants same v.elements.now 0 v.rows.now ∙
-    ap (λ bytes. sections_fault (record { decls = decls v; bytes = bytes; request = q })) c.limited-view.ensures.strings ∙
-    ap (λ es. sections_fault (record { decls = decls_of es v.rows.now; bytes = given.strings.now; request = q })) c.limited-view.ensures.elements ∙
-    ap (λ rows. sections_fault (record { decls = decls_of given.elements.now rows; bytes = given.strings.now; request = q })) c.limited-view.ensures.rows
+    first_section v c.args.lists.now (λ _. true) grants (sym c.if-granted.true ∙ same) v.elements.now 0 v.rows.now ∙
+    limited_sections c.args.view.now v c.args.lists.now grants c.limited-view.ensures.rows c.limited-view.ensures.elements c.limited-view.ensures.strings
+
+pub returns-else-granted : goal.returns-else-granted
+returns-else-granted c grants same =
+    let v = c.limited-view.result in
+    c.check_each-else-granted.ensures ∙
+    first_section v c.args.lists.now (λ _. false) grants (sym c.if-granted.false ∙ same) v.elements.now 0 v.rows.now ∙
+    limited_sections c.args.view.now v c.args.lists.now grants c.limited-view.ensures.rows c.limited-view.ensures.elements c.limited-view.ensures.strings

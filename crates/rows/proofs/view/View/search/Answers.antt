@@ -1,11 +1,10 @@
-use Rattle.std.proofs.lemmas.Result.{err_from_is_err_and}
 use Rattle.rows.proofs.Finds.{find_stops, find_ends, find_onward}
+use Rattle.rows.proofs.Passed.{passed_on}
 use Rattle.rows.proofs.view.View.search.Goals as goal
 
 pub returns-in_err-is_named : goal.returns-in_err-is_named
 returns-in_err-is_named c es =
-    let p = err_from_is_err_and c.from_residual.result c.from_residual.ensures.1 in
-    rw (p.1, p.2) (find_stops (c.loop-at.invariant es) c.loop-at-test.true _ (c.in_err-is_named.ensures es))
+    passed_on _ c.from_residual.result _ c.from_residual.ensures.1 (find_stops (c.loop-at.invariant es) c.loop-at-test.true _ (c.in_err-is_named.ensures es))
 
 pub returns-then-branch : goal.returns-then-branch
 returns-then-branch c es = find_ends (c.loop-at.invariant es) c.loop-at-test.true (rw c.if-branch.true at (c.in_ok-is_named.ensures es))

@@ -1,16 +1,14 @@
-use Rattle.std.proofs.lemmas.Result.{err_from_is_err_and}
 use Rattle.rows.proofs.Paths.{path_over, path_missing, path_stuck, path_ends, path_onward}
+use Rattle.rows.proofs.Passed.{passed_on}
 use Rattle.rows.proofs.view.View.walk.Goals as goal
 
 pub returns-in_err-row-clause-answer : goal.returns-in_err-row-clause-answer
 returns-in_err-row-clause-answer g c es =
-    let p = err_from_is_err_and c.from_residual.result c.from_residual.ensures.1 in
-    rw (p.1, p.2) (path_missing (c.loop-links.invariant es) c.loop-links-test.true _ c.in_err-row.ensures)
+    passed_on _ c.from_residual.result _ c.from_residual.ensures.1 (path_missing (c.loop-links.invariant es) c.loop-links-test.true _ c.in_err-row.ensures)
 
 pub returns-in_err-next-clause-answer : goal.returns-in_err-next-clause-answer
 returns-in_err-next-clause-answer g c es =
-    let p = err_from_is_err_and c.from_residual-in_err-next.result c.from_residual-in_err-next.ensures.1 in
-    rw (p.1, p.2) (path_stuck (c.loop-links.invariant es) c.loop-links-test.true _ c.in_ok-row.ensures _ (c.in_err-next.ensures es))
+    passed_on _ c.from_residual-in_err-next.result _ c.from_residual-in_err-next.ensures.1 (path_stuck (c.loop-links.invariant es) c.loop-links-test.true _ c.in_ok-row.ensures _ (c.in_err-next.ensures es))
 
 pub returns-in-Ends-clause-answer : goal.returns-in-Ends-clause-answer
 returns-in-Ends-clause-answer g c es =

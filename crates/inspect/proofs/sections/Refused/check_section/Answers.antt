@@ -2,7 +2,7 @@ use Rattle.std.proofs.Common.{take, drop, ◌∙◌}
 use Rattle.layout.specs.Info.{elements_of}
 use Rattle.rewriting.specs.Sections.{member_fault}
 use Rattle.inspect.proofs.Faults.{first_entry}
-use Rattle.inspect.proofs.sections.Sections.check_refused.Goals as goal
+use Rattle.inspect.proofs.sections.Refused.check_section.Goals as goal
 
 pub returns : goal.returns
 returns c =
