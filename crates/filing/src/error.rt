@@ -14,6 +14,7 @@ pub enum FilingError {
     Memory,
 }
 
+// By hand, since the From that `#[from]` derives has no contract.
 impl From<BtfError> for FilingError {
     ghost from_gives = { λ refusal e. e ≡ Table refusal };
 
@@ -22,6 +23,7 @@ impl From<BtfError> for FilingError {
     }
 }
 
+// By hand, since it drops its argument, which no derive does.
 impl From<AllocError> for FilingError {
     ghost from_gives = { λ _ e. e ≡ Memory };
 

@@ -11,7 +11,7 @@ ghost use Rattle.table.specs.Tables.{table_of, outcome, with_row, with_elements,
 use crate::btf::Btf;
 use crate::placing::{put_name, put_tail};
 use elements::ElementType;
-use layout::{Area, BtfError, BtfKind, BtfType, Declaration};
+use layout::{Area, BtfError, BtfKind, BtfType, Declaration, Linkage};
 use rows::{MOST_DECLARATIONS, TypeRow, name_length};
 
 pub const MOST_ELEMENTS: usize = 2_097_152;
@@ -20,8 +20,6 @@ pub const MOST_STRINGS: usize = 16_777_215;
 
 // The elements that one declaration may have.
 const MOST_TAIL: usize = 65535;
-
-const LAST_LINKAGE: u32 = 3;
 
 // The kind of a declaration with so many elements, where nothing is refused of it by itself.
 fn declared_kind<E: ElementType>(
@@ -40,7 +38,7 @@ fn declared_kind<E: ElementType>(
     if declaration.flag && !kind.takes_flag() {
         return Err(BtfError::UnexpectedFlag);
     }
-    if kind.has_linkage() && LAST_LINKAGE < declaration.linkage {
+    if kind.has_linkage() && u32::from(Linkage::Unstated) < declaration.linkage {
         return Err(BtfError::InvalidLinkage {
             linkage: declaration.linkage,
         });

@@ -17,7 +17,7 @@ impl<'a> Btf<'a> {
         ensures types { result.types.now ≡ (if holding (length types.old) (length strings.old) then slice_set types.old 0 void_row else types.old) }
         ensures elements { result.elements.now ≡ elements.old }
     {
-        if types.len() == 0 || strings.len() == 0 {
+        if types.is_empty() || strings.is_empty() {
             return Btf {
                 types,
                 elements,

@@ -5,7 +5,8 @@ ghost use Rattle.table.specs.Writing.{Room, Wrote};
 
 use order::ByteOrder;
 
-// Writes into a buffer, from `at` on, in a byte order.
+// Writes into a buffer, from `at` on, in a byte order. The place stands beside the whole buffer, since of a slice that
+// gets shorter the proof of a file would no longer see what was written before it.
 #[derive(Drop)]
 pub(crate) struct Writer<'w, O> {
     pub(crate) order: &'w O,
