@@ -10,7 +10,7 @@ use table::Btf;
 
 pub type Label = [u8; 12];
 
-// A label: `n`, and a number in eleven digits.
+// A label: `n`, and a number in eleven digits. By hand: a `write!` with `{:011}` would need a writer over the array.
 fn label(number: u32) -> Label {
     let mut label = *b"n00000000000";
     let mut rest = number;
@@ -51,7 +51,8 @@ struct Before {
     constant: Option<u32>,
 }
 
-// Adds a declaration that has no elements.
+// Adds a declaration that has no elements. The string area comes beside the table: a struct of both could not lend
+// one for change and the other for reading in one call.
 fn add_alone(table: &mut Btf, names: &[u8], declaration: &Declaration) -> Result<u32, BtfError> {
     let none: [BtfMember; 0] = [];
     table.add_type(names, declaration, &none)

@@ -61,7 +61,8 @@ fn checksum_of(bytes: &[u8]) -> u64 {
     })
 }
 
-// Changes a byte before a work, so that no work can be left out.
+// Changes a byte before a work, so that no work can be left out. Works take a table and its string area: a struct of
+// both could not lend one for change and the other for reading in one call.
 fn spoil(byte: Option<&mut u8>) {
     if let Some(byte) = byte {
         *byte = byte.wrapping_add(1);

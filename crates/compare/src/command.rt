@@ -7,6 +7,7 @@ use layout::{BtfKind, PointerWidth};
 use order::Endian;
 use std::alloc::Global;
 
+// A question as it is read from a line: the name is its own, and is kept until the table has answered.
 #[derive(Drop)]
 pub enum Question {
     StringAt(u32),
@@ -29,10 +30,10 @@ pub enum Command {
 }
 
 fn read_endian(words: &mut Words) -> Result<Endian, Malformed> {
-    Endian::try_from(words.text(Part::Order)?).map_err(|_| Malformed::NotAnOrder)
+    Ok(Endian::try_from(words.text(Part::Order)?)?)
 }
 
-// Unknown is the kind of the number 0 and of those that no kind has.
+// Unknown is the kind of the number 0 and of each that no kind has: a kind from a number cannot fail, so the number tells.
 fn read_kind(words: &mut Words) -> Result<BtfKind, Malformed> {
     let number = words.word(Part::Kind)?;
     match BtfKind::from(number) {

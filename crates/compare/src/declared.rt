@@ -12,7 +12,6 @@ use layout::{BtfKind, Declaration, Linkage};
 // The elements of a declaration.
 #[derive(Drop)]
 pub enum Tail {
-    None,
     Values(Vec<BtfEnum>),
     Values64(Vec<BtfEnum64>),
     Members(Vec<BtfMember>),
@@ -23,7 +22,8 @@ pub enum Tail {
 #[derive(Drop)]
 pub struct Declared {
     pub declaration: Declaration,
-    pub tail: Tail,
+    // none where the kind has no elements
+    pub tail: Option<Tail>,
 }
 
 // What a list of a script is made of.
@@ -174,15 +174,15 @@ fn read_declaration(kind: BtfKind, name: u32, words: &mut Words) -> Result<Decla
     })
 }
 
-fn read_tail(kind: BtfKind, words: &mut Words) -> Result<Tail, Fault> {
-    Ok(match kind {
+fn read_tail(kind: BtfKind, words: &mut Words) -> Result<Option<Tail>, Fault> {
+    Ok(Some(match kind {
         BtfKind::Enum => Tail::Values(list(words)?),
         BtfKind::Enum64 => Tail::Values64(list(words)?),
         BtfKind::Struct | BtfKind::Union => Tail::Members(list(words)?),
         BtfKind::FuncProto => Tail::Params(list(words)?),
         BtfKind::DataSec => Tail::Entries(list(words)?),
-        _ => Tail::None,
-    })
+        _ => return Ok(None),
+    }))
 }
 
 impl Declared {

@@ -19,6 +19,7 @@ pub enum Fault {
     Io(#[from] io::Error),
 }
 
+// By hand, since a refusal of the table is answered: it is one case, however it came.
 impl From<FilingError> for Fault {
     fn from(e: FilingError) -> Fault {
         match e {

@@ -1,4 +1,5 @@
 // Why a line is no command.
+use order::UnknownEndian;
 use std::fmt;
 use thiserror::Error;
 
@@ -22,8 +23,8 @@ pub enum Malformed {
     NotAName,
     #[error("the width is neither 4 nor 8")]
     NotAWidth,
-    #[error("the byte order is neither little nor big")]
-    NotAnOrder,
+    #[error(transparent)]
+    Order(#[from] UnknownEndian),
     #[error("no kind has the number {0}")]
     NoKindNumber(u32),
     #[error("there are too many words")]

@@ -12,7 +12,8 @@ fn is_plain(b: u8) -> bool {
     b.is_ascii_alphanumeric() || matches!(b, b'_' | b'.' | b'/' | b'-')
 }
 
-// The bytes that a written name stands for, up to one that is not written so.
+// The bytes that a written name stands for, up to one that is not written so. The library's percent decoding refuses
+// nothing: it takes a malformed % and an unescaped byte as they stand.
 #[derive(Drop)]
 struct Bytes<'a> {
     rest: &'a [u8],
@@ -38,7 +39,7 @@ pub fn decoded(heap: Global, text: &[u8]) -> Result<Vec<u8>, Fault> {
     Bytes { rest: text }.try_collect(heap)
 }
 
-// A name as it is printed.
+// A name as it is printed, by the `is_plain` that reading asks too: the library's percent encoding would take its set.
 #[derive(Drop)]
 pub struct Shown<'a>(pub &'a [u8]);
 

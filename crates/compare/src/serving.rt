@@ -39,12 +39,12 @@ const NO_MEMBERS: &[BtfMember] = &[];
 fn add(table: &mut Btf, names: &mut [u8], declared: &Declared) -> Result<u32, BtfError> {
     let declaration = &declared.declaration;
     match &declared.tail {
-        Tail::None => table.add_type(names, declaration, NO_MEMBERS),
-        Tail::Values(values) => table.add_type(names, declaration, values),
-        Tail::Values64(values) => table.add_type(names, declaration, values),
-        Tail::Members(members) => table.add_type(names, declaration, members),
-        Tail::Params(params) => table.add_type(names, declaration, params),
-        Tail::Entries(entries) => table.add_type(names, declaration, entries),
+        None => table.add_type(names, declaration, NO_MEMBERS),
+        Some(Tail::Values(values)) => table.add_type(names, declaration, values),
+        Some(Tail::Values64(values)) => table.add_type(names, declaration, values),
+        Some(Tail::Members(members)) => table.add_type(names, declaration, members),
+        Some(Tail::Params(params)) => table.add_type(names, declaration, params),
+        Some(Tail::Entries(entries)) => table.add_type(names, declaration, entries),
     }
 }
 

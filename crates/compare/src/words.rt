@@ -29,7 +29,7 @@ impl<'a> Iterator for Words<'a> {
             .unwrap_or(text.len());
         let (word, rest) = text.split_at(length);
         self.rest = rest;
-        if word.is_empty() { None } else { Some(word) }
+        (!word.is_empty()).then_some(word)
     }
 }
 

@@ -47,10 +47,11 @@ impl Questions<'_> {
     // What stands behind an id.
     fn ask_end(&self, id: u32) -> io::Result<()> {
         print!(self.rt; "end of id {id}: ")?;
-        match self.table.resolve_type(self.names, id) {
-            Ok((end, links)) => println!(self.rt; "id {end}, {links} links"),
-            Err(refusal) => println!(self.rt; "{refusal}"),
-        }
+        self.answer(
+            self.table
+                .resolve_type(self.names, id)
+                .map(|(end, links)| End { end, links }),
+        )
     }
 
     fn ask_name(&self, id: u32) -> io::Result<()> {
@@ -154,6 +155,20 @@ impl Questions<'_> {
     pub fn ask_all(&self, meter: &Meter) -> io::Result<()> {
         self.ask_known(meter)?;
         self.ask_in_vain(meter)
+    }
+}
+
+// What stands behind an id, and the links followed to it.
+#[derive(Clone, Copy)]
+struct End {
+    end: u32,
+    links: u32,
+}
+
+impl fmt::Display for End {
+    fn fmt<W: fmt::Write>(&self, f: &mut fmt::Formatter<W>) -> fmt::Result {
+        let End { end, links } = self;
+        write!(f, "id {end}, {links} links")
     }
 }
 

@@ -3,6 +3,7 @@ ghost use Rattle.std.specs.Prelude.{◌≡◌, ℕ, ◌<◌, ◌≤◌, length, 
 ghost use Rattle.meters.specs.Sheets.{Split, Lacks, AllPrintable, Named, Fields};
 
 use bstr::{ByteSlice, LinesWithTerminator};
+use order::UnknownEndian;
 use std::io;
 use std::io::Read;
 use thiserror::Error;
@@ -25,8 +26,8 @@ pub enum Malformed {
     UnprintableName { place: usize },
     #[error("the name stood in line {line}")]
     RepeatedName { line: usize },
-    #[error("the byte order is neither little nor big")]
-    UnknownOrder,
+    #[error(transparent)]
+    Order(#[from] UnknownEndian),
 }
 
 // What was read of a sheet, and whether there was more.
@@ -129,7 +130,7 @@ fn checked_name(bytes: &[u8]) -> Result<&str, Malformed>
     ensures { IfOk result (λ s. (s.now ≡ bytes.now) × Named s.now) }
 {
     let length = bytes.len();
-    if length == 0 {
+    if bytes.is_empty() {
         return Err(Malformed::EmptyName);
     }
     if LONGEST_NAME < length {

@@ -67,7 +67,7 @@ impl<'s> Swaps<'s> {
         self.lines.insert(name, line)?;
         match Endian::try_from(row.order) {
             Ok(endian) => self.give_file(line, row, endian),
-            Err(_) => self.refuse(line, Malformed::UnknownOrder),
+            Err(unknown) => self.refuse(line, unknown.into()),
         }
     }
 
