@@ -1,6 +1,6 @@
 // Questions to a meter's table, with the answers and the refusals that it gives.
 use crate::meter::Meter;
-use crate::shown::{Shown, ShownElement, kind_word};
+use crate::shown::{Shown, ShownElement};
 use layout::{BtfError, BtfKind, PointerWidth};
 use std::{fmt, io};
 use table::Btf;
@@ -68,7 +68,7 @@ impl Questions<'_> {
     }
 
     fn ask_id(&self, kind: BtfKind, name: &str) -> io::Result<()> {
-        print!(self.rt; "id of {} {name}: ", kind_word(kind))?;
+        print!(self.rt; "id of {kind} {name}: ")?;
         self.answer(
             self.table
                 .id_by_type_name_kind(self.names, name.as_bytes(), kind),

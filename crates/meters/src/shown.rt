@@ -50,32 +50,6 @@ impl fmt::Display for Hex<'_> {
     }
 }
 
-// The name of a kind. It stays a word: a type around a kind, to print by `Display`, would be one more name for it.
-pub fn kind_word(kind: BtfKind) -> &'static str {
-    match kind {
-        BtfKind::Unknown => "VOID",
-        BtfKind::Int => "INT",
-        BtfKind::Ptr => "PTR",
-        BtfKind::Array => "ARRAY",
-        BtfKind::Struct => "STRUCT",
-        BtfKind::Union => "UNION",
-        BtfKind::Enum => "ENUM",
-        BtfKind::Fwd => "FWD",
-        BtfKind::Typedef => "TYPEDEF",
-        BtfKind::Volatile => "VOLATILE",
-        BtfKind::Const => "CONST",
-        BtfKind::Restrict => "RESTRICT",
-        BtfKind::Func => "FUNC",
-        BtfKind::FuncProto => "FUNC_PROTO",
-        BtfKind::Var => "VAR",
-        BtfKind::DataSec => "DATASEC",
-        BtfKind::Float => "FLOAT",
-        BtfKind::DeclTag => "DECL_TAG",
-        BtfKind::TypeTag => "TYPE_TAG",
-        BtfKind::Enum64 => "ENUM64",
-    }
-}
-
 // A declaration with its name: `ENUM verdict 4 bytes, flagged, 3 elements`.
 #[derive(Drop)]
 pub struct Heading<'a> {
@@ -110,7 +84,7 @@ fn show_info<W: fmt::Write>(head: &BtfType, f: &mut fmt::Formatter<W>) -> fmt::R
 
 impl fmt::Display for Heading<'_> {
     fn fmt<W: fmt::Write>(&self, f: &mut fmt::Formatter<W>) -> fmt::Result {
-        f.write_str(kind_word(self.head.kind()))?;
+        write!(f, "{}", self.head.kind())?;
         if !self.name.is_empty() {
             write!(f, " {}", Shown(self.name))?;
         }
