@@ -65,7 +65,7 @@ impl<O: ByteOrder> Writer<'_, O> {
             BtfKind::Unknown => {}
             BtfKind::Int | BtfKind::Var | BtfKind::DeclTag => self.head(&row.head, 1),
             BtfKind::Array => self.head(&row.head, 3),
-            BtfKind::Enum | BtfKind::FuncProto => { self.head_with(&row.head, view.tail(row), 2) }
+            BtfKind::Enum | BtfKind::FuncProto => self.head_with(&row.head, view.tail(row), 2),
             BtfKind::Struct | BtfKind::Union | BtfKind::DataSec | BtfKind::Enum64 => {
                 self.head_with(&row.head, view.tail(row), 3)
             }
