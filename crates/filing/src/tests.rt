@@ -6,7 +6,7 @@ use order::{BigEndian, LittleEndian};
 use std::test::Fail;
 use table::{Btf, TypeRow};
 
-// The bytes worked out by hand once more: `checks` has them too, but is a program, of which no crate can use anything.
+// The bytes worked out by hand once more: those in `checks` stand in modules of its tests, which no other crate can use.
 const NEW_LITTLE: &[u8] = &[
     0x9f, 0xeb, 1, 0, 24, 0, 0, 0, 0, 0, 0, 0, 0, 0, 0, 0, 0, 0, 0, 0, 1, 0, 0, 0, 0,
 ];

@@ -1,12 +1,12 @@
 -- What is written of a row.
-use Rattle.std.proofs.Common.{◌≡◌, ℕ, suc, ◌+◌, ◌*◌, ◌<◌, ◌≤◌, eqb, ltb, List, [], ◌∷◌, ◌++◌, map, length, get_or, take, drop, sum_by, sym, refl, ap, ◌∙◌, subst, mul-one, mul-add, arith, length-append}
+use Rattle.std.proofs.Common.{◌≡◌, ℕ, suc, ◌+◌, ◌*◌, ◌<◌, ◌≤◌, eqb, List, [], ◌∷◌, ◌++◌, map, length, get_or, take, drop, sum_by, sym, refl, ap, ◌∙◌, subst, mul-one, mul-add, arith, length-append}
 use Rattle.std.specs.List.{flat_map}
 use Rattle.std.proofs.lemmas.List.Folds.{flat_map-map}
 use Rattle.std.proofs.lemmas.List.Sums.{sum_by-cons}
 use Rattle.std.proofs.lemmas.Nat.{mul-le}
-use Rattle.std.proofs.lemmas.Bool.{cond-true, cond-false, ne_eqb, lt-ltb}
+use Rattle.std.proofs.lemmas.Bool.{cond-false, ne_eqb}
 use Rattle.layout.specs.Kinds.{kind_number, extra_words, element_words}
-use Rattle.layout.specs.Info.{kind_of, low_of, elements_of, type_length}
+use Rattle.layout.specs.Info.{kind_of, elements_of, type_length}
 use Rattle.order.specs.Order.{Order}
 use Rattle.elements.specs.declared.Element.{Element}
 use Rattle.meaning.specs.File.{coded, decl_words, type_bytes, header}
@@ -25,16 +25,14 @@ elements_fit width i count h = subst (λ n. n ≤ width * count) (words_more wid
 
 -- a declaration whose kind has elements has the words of its head and of as many elements as its low bits say
 pub tail_row : (row : TypeRow) (es : List Element) (width : ℕ) (tail : List Element) → (kind_number (kind_of row.head.info) ≡ 0 → ⊥) →
-    0 ≡ extra_words (kind_of row.head.info) → width ≡ element_words (kind_of row.head.info) → 0 < width → tail ≡ take (low_of row.head.info) (drop row.first es) →
+    0 ≡ extra_words (kind_of row.head.info) → width ≡ element_words (kind_of row.head.info) → tail ≡ take (elements_of row.head.info) (drop row.first es) →
     head_words row.head 0 ++ flat_map (kept width) tail ≡ decl_words (decl_of es row)
-tail_row row es width tail some extras widths wide tails =
+tail_row row es width tail some extras widths tails =
     let info = row.head.info in
     let words = element_words (kind_of info) in
-    let counted : low_of info ≡ elements_of info = sym (cond-true (ltb 0 words) (low_of info) 0 (lt-ltb 0 words (omega arith))) in
-    let taken : tail ≡ take (elements_of info) (drop row.first es) = tails ∙ ap (λ n. take n (drop row.first es)) counted in
     ap (λ n. head_words row.head n ++ flat_map (kept width) tail) extras ∙
     ap (λ n. head_words row.head (extra_words (kind_of info)) ++ flat_map (kept n) tail) widths ∙
-    ap (λ l. head_words row.head (extra_words (kind_of info)) ++ flat_map (kept words) l) taken ∙
+    ap (λ l. head_words row.head (extra_words (kind_of info)) ++ flat_map (kept words) l) tails ∙
     ap (λ l. head_words row.head (extra_words (kind_of info)) ++ l) (sym (flat_map-map (λ e. e) (kept_words info) (take (elements_of info) (drop row.first es)))) ∙
     sym (cond-false (eqb (kind_number (kind_of info)) 0) [] _ (ne_eqb _ 0 some))
 
