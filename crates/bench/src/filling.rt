@@ -51,8 +51,8 @@ struct Before {
     constant: Option<u32>,
 }
 
-// Adds a declaration that has no elements. The string area comes beside the table: a struct of both could not lend
-// one for change and the other for reading in one call.
+// Adds a declaration that has no elements.
+// The string area comes beside a table: a struct of both could not lend one for change and one for reading in one call.
 fn add_alone(table: &mut Btf, names: &[u8], declaration: &Declaration) -> Result<u32, BtfError> {
     let none: [BtfMember; 0] = [];
     table.add_type(names, declaration, &none)

@@ -61,14 +61,14 @@ fn checksum_of(bytes: &[u8]) -> u64 {
     })
 }
 
-// Changes a byte before a work, so that no work can be left out. Works take a table and its string area: a struct of
-// both could not lend one for change and the other for reading in one call.
+// Changes a byte before a work, so that no work can be left out.
 fn spoil(byte: Option<&mut u8>) {
     if let Some(byte) = byte {
         *byte = byte.wrapping_add(1);
     }
 }
 
+// The string area comes beside a table: a struct of both could not lend one for change and one for reading in one call.
 fn encode(table: &Btf, names: &[u8], out: &mut [u8]) -> Result<(), Fault> {
     spoil(out.first_mut());
     table.to_bytes(names, &LittleEndian, out)?;

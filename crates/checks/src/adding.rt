@@ -8,7 +8,7 @@ use crate::player::*;
 use elements::BtfElement::{Entry, Member};
 use elements::{BtfEnum, BtfEnum64, BtfMember, BtfParam, DataSecEntry, Element, ElementType};
 use layout::BtfKind::*;
-use layout::BtfType;
+use layout::{BtfKind, BtfType};
 use std::process::Abort;
 use std::test::Fail;
 use table::{Btf, TypeRow};
@@ -29,9 +29,9 @@ const FAULTS: &[Step] = &[
         No(2, None, None, Some(4294967295)),
     ),
     (AddRaw(20, true, 4), No(2, None, None, Some(20))),
-    (AddMany(Entries(1, true, 1)), No(2, None, None, Some(1))),
+    (AddMany(Entries(Int, true, 1)), No(2, None, None, Some(1))),
     (
-        AddMany(Entries(1, false, 65536)),
+        AddMany(Entries(Int, false, 65536)),
         No(2, None, None, Some(1)),
     ),
     (AddRaw(1, true, 0), No(3, None, None, Some(1))),
@@ -42,11 +42,11 @@ const FAULTS: &[Step] = &[
         No(3, None, None, Some(4294967295)),
     ),
     (
-        AddMany(Entries(15, true, 65536)),
+        AddMany(Entries(DataSec, true, 65536)),
         No(3, None, None, Some(1)),
     ),
     (
-        AddMany(Entries(15, false, 65536)),
+        AddMany(Entries(DataSec, false, 65536)),
         No(4, None, None, Some(65536)),
     ),
     (AddMany(Structs(1, 65536)), No(4, None, None, Some(65536))),
@@ -73,7 +73,7 @@ const ELEMENTS: &[Step] = &[
     (AddMany(Structs(1, 2)), Number(1)),
     (Add(Int, 0, 4), Number(2)),
     (AddRaw(12, false, 1), Number(3)),
-    (AddMany(Entries(15, false, 1)), Number(4)),
+    (AddMany(Entries(DataSec, false, 1)), Number(4)),
     (Ask(ElementAt(1, 1)), Element(Member(MEMBER))),
     (Ask(ElementAt(1, 2)), No(18, Some(1), Some(2), None)),
     (
@@ -96,6 +96,12 @@ fn declarations_are_taken_or_refused(rt: HostRuntime) -> Result<(), Fail> {
     play(&rt, Rooms(3, 2, 1), 0xee, FULL)?;
     play(&rt, ROOMY, 0xee, ELEMENTS)
 }
+
+// In the order of their numbers, from 1 on.
+const KINDS: [BtfKind; 19] = [
+    Int, Ptr, Array, Struct, Union, Enum, Fwd, Typedef, Volatile, Const, Restrict, Func, FuncProto,
+    Var, DataSec, Float, DeclTag, TypeTag, Enum64,
+];
 
 // By kind, from Int on: what is kept where every word is given.
 const HEADS: [[u32; 6]; 19] = [
@@ -126,7 +132,7 @@ fn heads_keep_what_their_kind_has(rt: HostRuntime) {
     let mut strings = [0];
     let mut table = Btf::new(&mut types, &mut [], &mut strings);
     let mut player = Player::new(&rt, &mut table, &mut strings);
-    for (head, kind) in HEADS.iter().zip(1..20u32) {
+    for (head, kind) in HEADS.iter().zip(KINDS) {
         let [name_offset, info, size_or_type, a, b, c] = *head;
         let head = BtfType {
             name_offset,
@@ -135,34 +141,37 @@ fn heads_keep_what_their_kind_has(rt: HostRuntime) {
             extra: [a, b, c],
         };
         assert_eq!(rt;
-            player.add(&raw(kind, false, 3), NO_MEMBERS),
-            Number(u64::from(kind))
+            player.add(&raw(kind.into(), false, 3), NO_MEMBERS),
+            Number(u64::from(u32::from(kind)))
         );
-        assert_eq!(rt; player.ask(&TypeById(kind)), Head(head));
+        assert_eq!(rt; player.ask(&TypeById(kind.into())), Head(head));
     }
 }
 
 // The kinds that take a flag.
-const FLAGGED: &[u32] = &[4, 5, 6, 7, 19];
+const FLAGGED: &[BtfKind] = &[Struct, Union, Enum, Fwd, Enum64];
 
 // The kinds without a linkage, at which one is passed over.
-const UNLINKED: &[u32] = &[1, 2, 3, 4, 5, 6, 7, 8, 9, 10, 11, 13, 15, 16, 17, 18, 19];
+const UNLINKED: &[BtfKind] = &[
+    Int, Ptr, Array, Struct, Union, Enum, Fwd, Typedef, Volatile, Const, Restrict, FuncProto,
+    DataSec, Float, DeclTag, TypeTag, Enum64,
+];
 
 // At the kinds that are not in the list the refusal has a number and a value, where none is given the kind.
 fn by_kind<R: Abort + AllocGlobal + Drop, E: ElementType>(
     player: &mut Player<R>,
     (flag, linkage): (bool, u32),
     tail: &[E],
-    taken: &[u32],
+    taken: &[BtfKind],
     (code, value): (u8, Option<u64>),
 ) {
     let rt = player.rt;
-    for kind in 1..20 {
-        let said = player.add(&raw(kind, flag, linkage), tail);
+    for kind in KINDS {
+        let said = player.add(&raw(kind.into(), flag, linkage), tail);
         if taken.contains(&kind) {
             assert!(rt; matches!(said, Number(_)));
         } else {
-            let value = value.unwrap_or(u64::from(kind));
+            let value = value.unwrap_or(u64::from(u32::from(kind)));
             assert_eq!(rt; said, No(code, None, None, Some(value)));
         }
     }
@@ -195,11 +204,11 @@ fn kinds_take_what_they_have(rt: HostRuntime) {
         offset: 0,
         size: 4,
     };
-    by_kind(player, (false, 0), &[value], &[6], (2, None));
-    by_kind(player, (false, 0), &[param], &[13], (2, None));
-    by_kind(player, (false, 0), &[value64], &[19], (2, None));
-    by_kind(player, (false, 0), &[member], &[4, 5], (2, None));
-    by_kind(player, (false, 0), &[entry], &[15], (2, None));
+    by_kind(player, (false, 0), &[value], &[Enum], (2, None));
+    by_kind(player, (false, 0), &[param], &[FuncProto], (2, None));
+    by_kind(player, (false, 0), &[value64], &[Enum64], (2, None));
+    by_kind(player, (false, 0), &[member], &[Struct, Union], (2, None));
+    by_kind(player, (false, 0), &[entry], &[DataSec], (2, None));
     by_kind(player, (true, 0), NO_MEMBERS, FLAGGED, (3, Some(1)));
     by_kind(player, (false, 4), NO_MEMBERS, UNLINKED, (3, Some(4)));
 }

@@ -1,4 +1,4 @@
-// Calls of a table as data, and what they say.
+// Calls of a table as data, and what they say: the tests are lists of calls and answers, which functions could not be.
 use elements::{BtfElement, BtfMember, DataSecEntry};
 use layout::{BtfError, BtfKind, BtfType, Declaration, PointerWidth};
 
@@ -26,8 +26,8 @@ pub enum Many {
     Consts(u32),
     // Structs, of so many members each
     Structs(u32, usize),
-    // section entries of one declaration, of a kind's number and a flag
-    Entries(u32, bool, usize),
+    // section entries of one declaration, of a kind and a flag
+    Entries(BtfKind, bool, usize),
 }
 
 #[derive(Clone, Copy)]
@@ -56,7 +56,7 @@ pub const ENTRY: DataSecEntry = DataSecEntry {
 
 pub const NO_MEMBERS: &[BtfMember] = &[];
 
-// A declaration with all words filled.
+// A declaration with all words filled, of a kind's number, which may be no kind's.
 pub fn raw(kind: u32, flag: bool, linkage: u32) -> Declaration {
     Declaration {
         name_offset: 0,
@@ -76,7 +76,7 @@ pub enum Said {
     Text([u8; 8]),
     Head(BtfType),
     Element(BtfElement),
-    // a refusal's number, declaration, element and value
+    // a refusal's number, declaration, element and value: numbers, since the published ones are what is tested
     No(u8, Option<u32>, Option<u32>, Option<u64>),
 }
 

@@ -23,7 +23,7 @@ const NOTHING: &[Step] = &[
     (Add(Int, 1, 4), NO_TABLE),
     (AddRaw(20, true, 4), NO_TABLE),
     (AddMany(Structs(1, 1)), NO_TABLE),
-    (AddMany(Entries(15, true, 65536)), NO_TABLE),
+    (AddMany(Entries(DataSec, true, 65536)), NO_TABLE),
     (Ask(StringAt(0)), NO_TABLE),
     (Ask(StringAt(u32::MAX)), NO_TABLE),
     (Ask(TypeById(0)), NO_TABLE),

@@ -40,19 +40,6 @@ struct Seen {
     area: Vec<u8>,
 }
 
-// The answer to a question over a string area.
-fn ask(table: &Btf, strings: &[u8], question: &Question) -> Said {
-    match *question {
-        Question::StringAt(offset) => table.string_at(strings, offset).into(),
-        Question::TypeById(id) => table.type_by_id(strings, id).into(),
-        Question::ElementAt(id, index) => table.element_at(strings, id, index).into(),
-        Question::TypeName(id) => table.type_name(strings, id).into(),
-        Question::Find(name, kind) => table.id_by_type_name_kind(strings, name, kind).into(),
-        Question::Resolve(id) => table.resolve_type(strings, id).into(),
-        Question::Size(id, width) => table.type_size(strings, id, width).into(),
-    }
-}
-
 // `strings` is only read, but of two fields that are lent together the check wants both as `&mut`.
 fn add<E: ElementType>(
     table: &mut Btf,
@@ -81,7 +68,16 @@ impl<'p, 'a, R: Abort + AllocGlobal + Drop> Player<'p, 'a, R> {
     }
 
     pub fn ask(&self, question: &Question) -> Said {
-        ask(self.table, self.strings, question)
+        let Player { table, strings, .. } = self;
+        match *question {
+            Question::StringAt(offset) => table.string_at(strings, offset).into(),
+            Question::TypeById(id) => table.type_by_id(strings, id).into(),
+            Question::ElementAt(id, index) => table.element_at(strings, id, index).into(),
+            Question::TypeName(id) => table.type_name(strings, id).into(),
+            Question::Find(name, kind) => table.id_by_type_name_kind(strings, name, kind).into(),
+            Question::Resolve(id) => table.resolve_type(strings, id).into(),
+            Question::Size(id, width) => table.type_size(strings, id, width).into(),
+        }
     }
 
     fn encode(&self, room: usize) -> Result<Said, AllocError> {
@@ -106,12 +102,12 @@ impl<'p, 'a, R: Abort + AllocGlobal + Drop> Player<'p, 'a, R> {
             Many::Structs(times, count) => {
                 let members = vec![in heap; MEMBER; count]?;
                 for _ in 0..times {
-                    said = self.add(&raw(4, false, 0), &members);
+                    said = self.add(&raw(BtfKind::Struct.into(), false, 0), &members);
                 }
             }
             Many::Entries(kind, flag, count) => {
                 let entries = vec![in heap; ENTRY; count]?;
-                said = self.add(&raw(kind, flag, 0), &entries);
+                said = self.add(&raw(kind.into(), flag, 0), &entries);
             }
         }
         Ok(said)

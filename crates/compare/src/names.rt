@@ -12,8 +12,8 @@ fn is_plain(b: u8) -> bool {
     b.is_ascii_alphanumeric() || matches!(b, b'_' | b'.' | b'/' | b'-')
 }
 
-// The bytes that a written name stands for, up to one that is not written so. The library's percent decoding refuses
-// nothing: it takes a malformed % and an unescaped byte as they stand.
+// The bytes that a written name stands for, up to one that is not written so.
+// By hand: the library's percent decoding refuses nothing, but takes a malformed % and unescaped bytes as they stand.
 #[derive(Drop)]
 struct Bytes<'a> {
     rest: &'a [u8],

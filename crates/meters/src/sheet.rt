@@ -80,6 +80,7 @@ pub fn is_passed_over(line: &[u8]) -> bool {
 }
 
 // What stands before and behind the first such byte.
+// By hand: bstr's `split_once_str` says it of matches of a needle, which the proof would have to read as bytes again.
 fn split_once(bytes: &[u8], byte: u8) -> Option<(&[u8], &[u8])>
     ensures { MatchOption result (Lacks bytes.now byte) (λ p. Split bytes.now byte p.0.now p.1.now) }
 {
