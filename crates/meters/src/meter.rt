@@ -18,8 +18,7 @@ const ARRAY_MAP: u32 = 2;
 // Tags the whole of what a DeclTag names.
 const WHOLE: i32 = -1;
 
-// The name of what has none. What `declare_named` adds is made with it too, and gets its name there: a closure from
-// a name to a declaration would need a `requires`.
+// The name of what has none.
 const UNNAMED: u32 = 0;
 
 #[derive(Clone, Copy)]
@@ -32,10 +31,10 @@ pub struct Numbers {
 
 impl Numbers {
     fn declare(recorder: &mut Recorder) -> Result<Numbers, Fault> {
-        let word = recorder.declare_named("u32", &Int::new(UNNAMED, 4, 0, 0))?;
-        let long = recorder.declare_named("u64", &Int::new(UNNAMED, 8, 0, 0))?;
-        let letter = recorder.declare_named("char", &Int::new(UNNAMED, 1, Int::CHAR, 0))?;
-        let int = recorder.declare_named("int", &Int::new(UNNAMED, 4, Int::SIGNED, 0))?;
+        let word = recorder.declare_named("u32", |name| Int::new(name, 4, 0, 0))?;
+        let long = recorder.declare_named("u64", |name| Int::new(name, 8, 0, 0))?;
+        let letter = recorder.declare_named("char", |name| Int::new(name, 1, Int::CHAR, 0))?;
+        let int = recorder.declare_named("int", |name| Int::new(name, 4, Int::SIGNED, 0))?;
         Ok(Numbers {
             word,
             long,
@@ -90,7 +89,7 @@ impl Counters {
         let pointer = recorder.declare_alone(&Ptr::new(UNNAMED, counters))?;
         let array = Array::new(UNNAMED, counters, numbers.word, LINES);
         let lines = recorder.declare_alone(&array)?;
-        let alias = recorder.declare_named("counters_t", &Typedef::new(UNNAMED, counters))?;
+        let alias = recorder.declare_named("counters_t", |name| Typedef::new(name, counters))?;
         let constant = recorder.declare_alone(&Const::new(alias))?;
         let volatile = recorder.declare_alone(&Volatile::new(numbers.long))?;
         let restrict = recorder.declare_alone(&Restrict::new(pointer))?;
@@ -149,7 +148,7 @@ pub struct Packets {
 
 impl Packets {
     fn declare(recorder: &mut Recorder, numbers: &Numbers) -> Result<Packets, Fault> {
-        let buffer = recorder.declare_named("__sk_buff", &Fwd::new(UNNAMED, false))?;
+        let buffer = recorder.declare_named("__sk_buff", |name| Fwd::new(name, false))?;
         let pointer = recorder.declare_alone(&Ptr::new(UNNAMED, buffer))?;
         let key = numbers.declare_key(recorder)?;
         Ok(Packets {
@@ -173,7 +172,7 @@ impl Maps {
         counters: &Counters,
     ) -> Result<Maps, Fault> {
         let map = Maps::declare_map(recorder, numbers, counters)?;
-        let var = recorder.declare_named("lines", &Var::new(UNNAMED, map, Linkage::Global))?;
+        let var = recorder.declare_named("lines", |name| Var::new(name, map, Linkage::Global))?;
         let name = recorder.name(".maps")?;
         let entry = DataSecEntry {
             btf_type: var,
@@ -216,8 +215,8 @@ pub struct Meter {
 
 // The rate of a line, and a pointer to its counters that is tagged.
 fn declare_rate(recorder: &mut Recorder, counters: &Counters) -> Result<(), Fault> {
-    recorder.declare_named("double", &Float::new(UNNAMED, 8))?;
-    let tagged = recorder.declare_named("percpu", &TypeTag::new(UNNAMED, counters.counters))?;
+    recorder.declare_named("double", |name| Float::new(name, 8))?;
+    let tagged = recorder.declare_named("percpu", |name| TypeTag::new(name, counters.counters))?;
     recorder.declare_alone(&Ptr::new(UNNAMED, tagged))?;
     Ok(())
 }
@@ -233,9 +232,9 @@ fn declare_func(
         recorder.param("number", numbers.word)?,
     ];
     let proto = recorder.declare(&FuncProto::new(numbers.int), &params)?;
-    let counting = Func::new(UNNAMED, proto, Linkage::Global);
-    let func = recorder.declare_named("count_packet", &counting)?;
-    recorder.declare_named("billed", &DeclTag::new(UNNAMED, func, WHOLE))?;
+    let counting = |name| Func::new(name, proto, Linkage::Global);
+    let func = recorder.declare_named("count_packet", counting)?;
+    recorder.declare_named("billed", |name| DeclTag::new(name, func, WHOLE))?;
     Ok(func)
 }
 

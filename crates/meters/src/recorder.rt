@@ -72,13 +72,15 @@ impl Recorder<'_, '_> {
         self.declare::<BtfMember>(declaration, &[])
     }
 
-    // Adds a name, and then a declaration without elements under that name.
-    pub fn declare_named(&mut self, text: &str, declaration: &Declaration) -> Result<u32, Fault> {
+    // Adds a name, and then the declaration without elements that is made under it.
+    pub fn declare_named<M: FnOnce(u32) -> Declaration>(
+        &mut self,
+        text: &str,
+        make: M,
+    ) -> Result<u32, Fault>
+        requires { M.IsAlwaysCallable make }
+    {
         let name_offset = self.name(text)?;
-        let named = Declaration {
-            name_offset,
-            ..*declaration
-        };
-        self.declare_alone(&named)
+        self.declare_alone(&make(name_offset))
     }
 }
