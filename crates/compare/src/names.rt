@@ -5,6 +5,7 @@ ghost use Rattle.std.specs.Iterator.{at_most};
 use crate::fault::Fault;
 use crate::malformed::Malformed;
 use crate::numbers::byte_of;
+use percent_encoding::{AsciiSet, NON_ALPHANUMERIC, ascii_set, percent_encode};
 use std::alloc::Global;
 use std::fmt;
 
@@ -39,20 +40,21 @@ pub fn decoded(heap: Global, text: &[u8]) -> Result<Vec<u8>, Fault> {
     Bytes { rest: text }.try_collect(heap)
 }
 
-// A name as it is printed, by the `is_plain` that reading asks too: the library's percent encoding would take its set.
+// What a name's bytes are not written as they stand.
+const ESCAPED: AsciiSet = ascii_set!(
+    NON_ALPHANUMERIC
+        .remove(b'_')
+        .remove(b'.')
+        .remove(b'/')
+        .remove(b'-')
+);
+
+// A name as it is printed.
 #[derive(Drop)]
 pub struct Shown<'a>(pub &'a [u8]);
 
 impl fmt::Display for Shown<'_> {
     fn fmt<W: fmt::Write>(&self, f: &mut fmt::Formatter<W>) -> fmt::Result {
-        f.write_char('=')?;
-        for byte in self.0 {
-            if is_plain(*byte) {
-                f.write_char(char::from(*byte))?;
-            } else {
-                write!(f, "%{byte:02X}")?;
-            }
-        }
-        Ok(())
+        write!(f, "={}", percent_encode(self.0, ESCAPED))
     }
 }
