@@ -29,7 +29,7 @@ impl Plan {
     }
 
     // The seconds of one work.
-    pub fn fastest<W: FnMut() -> Result<(), Fault>>(
+    pub(crate) fn fastest<W: FnMut() -> Result<(), Fault>>(
         self,
         rt: &HostRuntime,
         mut work: W,

@@ -73,7 +73,7 @@ impl Recorder<'_, '_> {
     }
 
     // Adds a name, and then the declaration without elements that is made under it.
-    pub fn declare_named<M: FnOnce(u32) -> Declaration>(
+    pub(crate) fn declare_named<M: FnOnce(u32) -> Declaration>(
         &mut self,
         text: &str,
         make: M,
