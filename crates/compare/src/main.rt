@@ -15,7 +15,7 @@ mod serving;
 mod words;
 
 use crate::fault::Fault;
-use crate::script::{Line, lines};
+use crate::script::Scripts;
 use crate::serving::{Session, serve};
 use elements::Element;
 use std::io::{BufWriter, Read, Write};
@@ -31,10 +31,10 @@ fn run(rt: &HostRuntime) -> Result<(), Fault> {
     let mut names = vec![in heap; 0u8; MOST_STRINGS]?;
     let mut out = BufWriter::new(heap, rt.stdout())?;
     // A script goes from a line `new` up to the next one. What stands before the first has no table.
-    for script in lines(heap, &input)?.chunk_by(|_, line| !line.begins_table()) {
-        let begins = script.first().is_some_and(Line::begins_table);
+    for script in Scripts::new(&input) {
+        let begins = script.begins_table();
         let mut session = begins.then(|| Session::new(heap, &mut rows, &mut elements, &mut names));
-        serve(heap, &mut out, &mut session, script)?;
+        serve(heap, &mut out, &mut session, &script)?;
     }
     out.flush()?;
     Ok(())

@@ -1,5 +1,7 @@
-// A text of scripts, cut into lines.
-use std::alloc::{AllocError, Global};
+// A text of scripts, cut into scripts and lines as it is read: nothing is kept for a line, so that a text of many short
+// lines takes no more memory than its bytes.
+ghost use Rattle.std.specs.Prelude.{ℕ, ◌<◌, ◌≤◌, length};
+ghost use Rattle.std.specs.Iterator.{at_most};
 
 #[derive(Clone, Copy)]
 pub struct Line<'a> {
@@ -10,19 +12,75 @@ pub struct Line<'a> {
 }
 
 impl Line<'_> {
-    pub fn begins_table(&self) -> bool {
-        matches!(self.text.trim_ascii(), b"new")
-    }
-
     // Whether it is blank or a comment.
     pub fn is_passed_over(&self) -> bool {
         self.text.starts_with(b"#") || self.text.trim_ascii().is_empty()
     }
 }
 
-pub fn lines(heap: Global, text: &[u8]) -> Result<Vec<Line<'_>>, AllocError> {
-    (1..)
-        .zip(text.split_inclusive(|b| *b == b'\n'))
-        .map(|(number, text)| Line { number, text })
-        .collect(heap)
+// Whether the first line of a text begins a table.
+fn begins_table(text: &[u8]) -> bool {
+    let first = text.split_inclusive(|b| *b == b'\n').next();
+    first.is_some_and(|line| matches!(line.trim_ascii(), b"new"))
+}
+
+// How many bytes there are before the next line that begins a table, the first line not being asked.
+fn script_length(text: &[u8]) -> usize
+    ensures within { result ≤ length text.now }
+    ensures some { 0 < length text.now → 0 < result }
+{
+    for (i, byte) in text.iter().enumerate() {
+        if *byte == b'\n' && begins_table(&text[i + 1..]) {
+            return i + 1;
+        }
+    }
+    text.len()
+}
+
+// From a line `new` up to the next one. What stands before the first has no table.
+#[derive(Clone, Copy)]
+pub struct Script<'a> {
+    pub text: &'a [u8],
+    // the number of its first line
+    pub first_line: usize,
+}
+
+impl<'a> Script<'a> {
+    pub fn begins_table(&self) -> bool {
+        begins_table(self.text)
+    }
+}
+
+#[derive(Drop)]
+pub struct Scripts<'a> {
+    rest: &'a [u8],
+    // the number of the next line
+    line: usize,
+}
+
+impl<'a> Scripts<'a> {
+    pub fn new(text: &'a [u8]) -> Scripts<'a> {
+        Scripts {
+            rest: text,
+            line: 1,
+        }
+    }
+}
+
+impl<'a> Iterator for Scripts<'a> {
+    type Item = Script<'a>;
+
+    ghost remaining = { λ s. at_most (length s.rest.now) };
+
+    fn next(&mut self) -> Option<Script<'a>> {
+        if self.rest.is_empty() {
+            return None;
+        }
+        let (text, rest) = self.rest.split_at(script_length(self.rest));
+        let first_line = self.line;
+        let breaks = text.iter().filter(|b| **b == b'\n').count();
+        self.rest = rest;
+        self.line = first_line.saturating_add(breaks);
+        Some(Script { text, first_line })
+    }
 }

@@ -4,7 +4,7 @@ use crate::command::{Command, Question};
 use crate::declared::{Declared, Tail};
 use crate::fault::Fault;
 use crate::malformed::Malformed;
-use crate::script::Line;
+use crate::script::{Line, Script};
 use elements::{BtfMember, Element};
 use filing::FilingError;
 use layout::BtfError;
@@ -114,9 +114,11 @@ pub fn serve<W: Write>(
     heap: Global,
     out: &mut W,
     session: &mut Option<Session>,
-    script: &[Line],
+    script: &Script,
 ) -> Result<(), Fault> {
-    for line in script {
+    for (i, text) in script.text.split_inclusive(|b| *b == b'\n').enumerate() {
+        let number = script.first_line.saturating_add(i);
+        let line = Line { number, text };
         if !line.is_passed_over() {
             print(out, line.number, answer(heap, session, line.text))?;
         }

@@ -1,4 +1,4 @@
-mod Faults
-mod Limits
-mod Numbers
-mod Standing
+pub mod Faults
+pub mod Limits
+pub mod Numbers
+pub mod Standing

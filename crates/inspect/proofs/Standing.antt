@@ -8,13 +8,13 @@ use Rattle.meaning.specs.Questions.{string_from}
 use Rattle.inspect.specs.Ends.{Ends}
 
 -- a name stands where a zero byte follows
-name_is : (bytes : List ℕ) (offset : ℕ) → is_some (string_from bytes offset) ≡ ltb (prefix_len named (drop offset bytes)) (length (drop offset bytes))
+pub name_is : (bytes : List ℕ) (offset : ℕ) → is_some (string_from bytes offset) ≡ ltb (prefix_len named (drop offset bytes)) (length (drop offset bytes))
 name_is bytes offset =
     let rest = drop offset bytes in
     let b = ltb (prefix_len named rest) (length rest) in
     cond_both b (Some (take (prefix_len named rest) rest)) None (λ (o : Option (List ℕ)). is_some o ≡ b) (λ e. sym e) (λ e. sym e)
 
-no_name_past : (bytes : List ℕ) (offset : ℕ) → length bytes ≤ offset → false ≡ is_some (string_from bytes offset)
+pub no_name_past : (bytes : List ℕ) (offset : ℕ) → length bytes ≤ offset → false ≡ is_some (string_from bytes offset)
 no_name_past bytes offset h = sym (name_is bytes offset ∙ ap (λ l. ltb (prefix_len named l) (length l)) (drop_all offset bytes h))
 
 -- bytes that end in a zero byte
@@ -26,7 +26,7 @@ zero_leads (b ∷ r) (suc k) h e =
     let rest = zero_leads r k (omega arith) e in
     cond_both (named b) (1 + prefix_len named r) 0 (λ n. n < suc (length r)) (λ some. omega arith) (λ none. omega arith)
 
-name_within : (bytes : List ℕ) (offset : ℕ) → Ends bytes → offset < length bytes → true ≡ is_some (string_from bytes offset)
+pub name_within : (bytes : List ℕ) (offset : ℕ) → Ends bytes → offset < length bytes → true ≡ is_some (string_from bytes offset)
 name_within bytes offset ends h =
     let k = length bytes - 1 - offset in
     let last : get_or (drop offset bytes) k 1 ≡ 0 = get_or-drop offset bytes k 1 ∙ ap (λ n. get_or bytes n 1) (omega arith) ∙ ends in

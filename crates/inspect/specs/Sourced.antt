@@ -5,4 +5,4 @@ use Rattle.inspect.specs.Listed.{request_of, job_of}
 use Rattle.inspect.specs.declared.sections.Sources.{Sources}
 
 abbrev pub sources_job : Sources → Job
-sources_job sources = job_of sources.view (request_of sources.lists (λ _. true))
+sources_job sources = job_of sources.view.now (request_of sources.lists.now (λ _. true))

@@ -80,7 +80,7 @@ impl Closing<'_> {
         ensures { fault_of said result ≡ elements_fault self.now.view.strings.now (length self.now.view.rows.now) id (element_refers (decl_kind (decl_of self.now.view.elements.now row.now))) 0 (decl_of self.now.view.elements.now row.now).tail }
     {
         let elements = Elements {
-            table: *self,
+            table: self,
             kind: row.head.kind(),
             id,
         };
@@ -91,7 +91,7 @@ impl Closing<'_> {
 // The elements of a declaration.
 #[derive(Clone, Copy)]
 struct Elements<'t> {
-    table: Closing<'t>,
+    table: &'t Closing<'t>,
     kind: BtfKind,
     id: u32,
 }
@@ -101,7 +101,7 @@ impl Check for Elements<'_> {
 
     type Fault = BtfError;
 
-    ghost fault = { λ c index element. element_fault c.table.view.strings.now (length c.table.view.rows.now) c.id (element_refers c.kind) index (take (element_words c.kind) element.words) };
+    ghost fault = { λ c index element. element_fault c.table.now.view.strings.now (length c.table.now.view.rows.now) c.id (element_refers c.kind) index (take (element_words c.kind) element.words) };
 
     ghost said = { said };
 

@@ -61,8 +61,8 @@ impl Check for Members {
 // What is read of the table and of the caller's lists.
 #[derive(Clone, Copy)]
 struct Sources<'c> {
-    view: View<'c, 'c>,
-    lists: Lists<'c>,
+    view: &'c View<'c, 'c>,
+    lists: &'c Lists<'c>,
 }
 
 impl Sources<'_> {
@@ -93,7 +93,7 @@ struct Entries<'c> {
 impl Entries<'_> {
     // A variable that is not static has a symbol.
     fn check_symbol(&self, var: &TypeRow, entry: u32) -> Result<(), FixupError>
-        ensures { fault_of fixup_said result ≡ symbol_fault (sources_job self.now.sources) self.now.section entry (decl_of self.now.sources.view.elements.now var.now) }
+        ensures { fault_of fixup_said result ≡ symbol_fault (sources_job self.now.sources) self.now.section entry (decl_of self.now.sources.view.now.elements.now var.now) }
     {
         if var.head.extra[0] == u32::from(Linkage::Static) {
             return Ok(());
@@ -153,7 +153,7 @@ impl Granted<'_> {
     // A section with a size of its own needs no row, and its entries are not read.
     fn check_section(&self, row: &TypeRow, section: u32) -> Result<(), FixupError>
         requires { kind_of row.now.head.info ≡ Section }
-        ensures { fault_of fixup_said result ≡ granted_fault (sources_job self.now.sources) section (decl_of self.now.sources.view.elements.now row.now) }
+        ensures { fault_of fixup_said result ≡ granted_fault (sources_job self.now.sources) section (decl_of self.now.sources.view.now.elements.now row.now) }
     {
         if 0 < row.head.size_or_type {
             return Ok(());
@@ -172,7 +172,7 @@ impl Check for Granted<'_> {
 
     type Fault = FixupError;
 
-    ghost fault = { λ c id row. section_fault (sources_job c.sources) id (decl_of c.sources.view.elements.now row) };
+    ghost fault = { λ c id row. section_fault (sources_job c.sources) id (decl_of c.sources.view.now.elements.now row) };
 
     ghost said = { fixup_said };
 
@@ -187,14 +187,14 @@ impl Check for Granted<'_> {
 // The sections of a table where sections are refused.
 #[derive(Clone, Copy)]
 struct Refused<'c> {
-    view: View<'c, 'c>,
+    view: &'c View<'c, 'c>,
 }
 
 impl Refused<'_> {
     // All entries are read.
     fn check_section(&self, row: &TypeRow, section: u32) -> Result<(), FixupError>
         requires { kind_of row.now.head.info ≡ Section }
-        ensures { fault_of fixup_said result ≡ each_fault (member_fault section) 0 (decl_of self.now.view.elements.now row.now).tail }
+        ensures { fault_of fixup_said result ≡ each_fault (member_fault section) 0 (decl_of self.now.view.now.elements.now row.now).tail }
     {
         check_each(&Members { section }, self.view.tail(row))
     }
@@ -205,7 +205,7 @@ impl Check for Refused<'_> {
 
     type Fault = FixupError;
 
-    ghost fault = { λ c id row. cond (kind_number (kind_of row.head.info) == 15) (each_fault (member_fault id) 0 (decl_of c.view.elements.now row).tail) None };
+    ghost fault = { λ c id row. cond (kind_number (kind_of row.head.info) == 15) (each_fault (member_fault id) 0 (decl_of c.view.now.elements.now row).tail) None };
 
     ghost said = { fixup_said };
 
@@ -222,13 +222,10 @@ pub fn sections_fault(granted: bool, view: &View, lists: &Lists) -> Result<(), F
     ensures { (grants : BtfFeature → Bool) → granted ≡ grants DataSec → fault_of fixup_said result ≡ sections_fault (few_job view.now (request_of lists.now grants)) }
 {
     let view = view.limited();
-    let sources = Sources {
-        view,
-        lists: *lists,
-    };
+    let sources = Sources { view: &view, lists };
     if granted {
         check_each(&Granted { sources }, view.rows)
     } else {
-        check_each(&Refused { view }, view.rows)
+        check_each(&Refused { view: &view }, view.rows)
     }
 }

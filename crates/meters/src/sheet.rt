@@ -1,9 +1,10 @@
 // A swap sheet: how it is read, and cut into lines and fields.
-ghost use Rattle.std.specs.Prelude.{◌≡◌, ℕ, ◌<◌, ◌≤◌, length, vec_len, IfOk, MatchOption};
+ghost use Rattle.std.specs.Prelude.{◌≡◌, ℕ, ◌<◌, ◌≤◌, length, vec_len, IfOk, MatchOption, MatchResult};
+ghost use Rattle.order.specs.Endian.{order_word, NamesNoOrder};
 ghost use Rattle.meters.specs.Sheets.{Split, Lacks, AllPrintable, Named, Fields};
 
 use bstr::{ByteSlice, LinesWithTerminator};
-use order::UnknownEndian;
+use order::{Endian, UnknownEndian};
 use std::io;
 use std::io::Read;
 use thiserror::Error;
@@ -116,6 +117,15 @@ impl<'a> TryFrom<&'a [u8]> for Row<'a> {
             order,
             kernel,
         })
+    }
+}
+
+impl Row<'_> {
+    // The byte order that the row names.
+    pub fn endian(&self) -> Result<Endian, UnknownEndian>
+        ensures { MatchResult result (λ e. self.now.order.now ≡ order_word e) (λ _. NamesNoOrder self.now.order.now) }
+    {
+        Endian::try_from(self.order)
     }
 }
 

@@ -65,7 +65,7 @@ impl<'s> Swaps<'s> {
     fn take_row(&mut self, line: usize, row: &Row) -> Result<(), Fault> {
         let name = String::from_str(self.rt.alloc(), row.name)?;
         self.lines.insert(name, line)?;
-        match Endian::try_from(row.order) {
+        match row.endian() {
             Ok(endian) => self.give_file(line, row, endian),
             Err(unknown) => self.refuse(line, unknown.into()),
         }

@@ -10,10 +10,10 @@ use Rattle.rows.specs.Rows.{decl_of, decls_of, row_at}
 use Rattle.rows.proofs.Lookups.{row_found, row_missing}
 
 -- the walk as it was asked is the walk from where it has come to
-pub record Walked {S : Type 0} (look : S → ℕ → Decl → Move S ℕ) (rows : List TypeRow) (es : List Element) (asked : ℕ) (whole : Answer (ℕ × ℕ)) (holder : Option ℕ) (s : S) (id links : ℕ) : Type 0 where
+pub record Walked {S X : Type 0} (look : S → ℕ → Decl → Move S X) (rows : List TypeRow) (es : List Element) (asked : ℕ) (whole : Answer (X × ℕ)) (holder : Option ℕ) (s : S) (id links : ℕ) : Type 0 where
   pub on : whole ≡ walk look (32 - links) (decls_of es rows) asked holder s id links
 
-module _ {S : Type 0} {look : S → ℕ → Decl → Move S ℕ} {rows : List TypeRow} {es : List Element} {asked : ℕ} {whole : Answer (ℕ × ℕ)} {holder : Option ℕ} {s : S} {id links : ℕ} (far : Walked look rows es asked whole holder s id links) where
+module _ {S X : Type 0} {look : S → ℕ → Decl → Move S X} {rows : List TypeRow} {es : List Element} {asked : ℕ} {whole : Answer (X × ℕ)} {holder : Option ℕ} {s : S} {id links : ℕ} (far : Walked look rows es asked whole holder s id links) where
   pub path_over : 32 ≤ links → refused (refusal 10 (Some asked) None None) ≡ whole
   path_over h =
       let none : 32 - links ≡ 0 = omega arith in
@@ -25,7 +25,7 @@ module _ {S : Type 0} {look : S → ℕ → Decl → Move S ℕ} {rows : List Ty
       ap refused gone.1 ∙ sym (far.on ∙ walk_missing look (decls_of es rows) asked (32 - links) holder s id links (omega arith) gone.0)
 
   module _ (few : links < 32) (row : TypeRow) (there : accepted row ≡ row_at rows holder id) where
-    path_more : (m : Move S ℕ) → m ≡ look s id (decl_of es row) → whole ≡ moved m (λ next s'. walk look (32 - (links + 1)) (decls_of es rows) asked (Some id) s' next (links + 1)) (λ x. accepted (x, links))
+    path_more : (m : Move S X) → m ≡ look s id (decl_of es row) → whole ≡ moved m (λ next s'. walk look (32 - (links + 1)) (decls_of es rows) asked (Some id) s' next (links + 1)) (λ x. accepted (x, links))
     path_more m does =
         let found = row_found rows es holder id row there in
         let less : 32 - links - 1 ≡ 32 - (links + 1) = omega arith in
@@ -35,7 +35,7 @@ module _ {S : Type 0} {look : S → ℕ → Decl → Move S ℕ} {rows : List Ty
         ap (λ x. moved x (λ next s'. walk look (32 - (links + 1)) (decls_of es rows) asked (Some id) s' next (links + 1)) (λ y. accepted (y, links)))
         (ap (look s id) found.1 ∙ sym does)
 
-    pub path_ends : (x : ℕ) → ends x ≡ look s id (decl_of es row) → accepted (x, links) ≡ whole
+    pub path_ends : (x : X) → ends x ≡ look s id (decl_of es row) → accepted (x, links) ≡ whole
     path_ends x does = sym (path_more (ends x) does)
 
     pub path_stuck : (r : Refusal) → stuck r ≡ look s id (decl_of es row) → refused r ≡ whole

@@ -1,2 +1,2 @@
-mod Numbered
-mod Spelled
+pub mod Numbered
+pub mod Spelled

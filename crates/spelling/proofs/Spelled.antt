@@ -1,13 +1,52 @@
 -- Names spelled byte by byte.
-use Rattle.std.proofs.Common.{◌≡◌, ℕ, ◌+◌, ◌-◌, ◌<◌, ◌≤◌, Bool, true, false, not, ◌&&◌, ◌||◌, eqb, List, [], ◌∷◌, ◌++◌, map, length, take, drop, set, refl, sym, ap, ◌∙◌, append_assoc, arith, length-append, length-drop, length-take}
+use Rattle.std.proofs.Common.{◌≡◌, ℕ, ◌+◌, ◌<◌, ◌≤◌, Bool, true, false, not, ◌&&◌, ◌||◌, eqb, List, [], ◌∷◌, map, length, get_or, take, drop, set, refl, sym, ap, ◌∙◌, arith, length-drop, length-take}
 use lib.ListN.{length-map}
-use borrow.Rule.Slice.PartMut.{put_mid}
-use Rattle.std.specs.List.{list_any, copy_within}
-use Rattle.std.proofs.lemmas.List.{take_at, drop_at}
+use Rattle.std.specs.Str.{bytes_eq}
+use Rattle.std.specs.List.{list_any}
+use Rattle.std.proofs.lemmas.List.{at_drop_more, at_drop_all, get_or_append_left, get_or-take, get_or-drop, get_or_default, take_all}
+use Rattle.std.proofs.lemmas.Bool.{eq-eqb, ne_eqb}
 use Rattle.meaning.specs.Adding.{over}
-use Rattle.meaning.proofs.Over.{over_more}
-use Rattle.meaning.proofs.Parts.{part_put}
+use Rattle.meaning.proofs.Over.{over_map_more, over_more}
 use Rattle.spelling.specs.Names.{changes, respelled}
+
+module _ (spells : ℕ → ℕ) where
+  abbrev same : List ℕ → Bool
+  same l = bytes_eq (map spells l) l
+
+  same_more : (name : List ℕ) (i : ℕ) → i < length name → same (drop i name) ≡ (eqb (spells (get_or name i 0)) (get_or name i 0) && same (drop (i + 1) name))
+  same_more name i h = at_drop_more same name i 0 h
+
+  pub changed_here : (name : List ℕ) (i b : ℕ) → changes spells name ≡ changes spells (drop i name) → i < length name → b ≡ spells (get_or name i 0) → (b ≡ get_or name i 0 → ⊥) → true ≡ changes spells name
+  changed_here name i b inv h e other =
+      sym (inv ∙ ap not (same_more name i h ∙ ap (λ x. x && same (drop (i + 1) name)) (ne_eqb (spells (get_or name i 0)) (get_or name i 0) (λ x. other (e ∙ x)))))
+
+  pub same_here : (name : List ℕ) (i b : ℕ) → changes spells name ≡ changes spells (drop i name) → i < length name → b ≡ spells (get_or name i 0) → b ≡ get_or name i 0 → changes spells name ≡ changes spells (drop (i + 1) name)
+  same_here name i b inv h e stays = inv ∙ ap not (same_more name i h ∙ ap (λ x. x && same (drop (i + 1) name)) (eq-eqb (spells (get_or name i 0)) (get_or name i 0) (sym e ∙ stays)))
+
+  pub all_same : (name : List ℕ) (i : ℕ) → changes spells name ≡ changes spells (drop i name) → length name ≤ i → false ≡ changes spells name
+  all_same name i inv h = sym (inv ∙ ap not (at_drop_all same name i h))
+
+  -- what stands before the place of writing is read as it was
+  before : (at k : ℕ) (new old : List ℕ) → k < at → at ≤ length old → get_or (over at new old) k 0 ≡ get_or old k 0
+  before at k new old h room = get_or_append_left (take at old) _ 0 k (omega (arith, length-take at old)) ∙ get_or-take at old k 0 h
+
+  module _ (area old : List ℕ) (at from count i : ℕ) (inv : area ≡ over at (map spells (take i (take count (drop from old)))) old) (apart : from + count ≤ at) (room : at + count < length old) where
+    pub spell_more : (x : ℕ) → i < count → x ≡ spells (get_or area (from + i) 0) → set area (at + i) x ≡ over at (map spells (take (i + 1) (take count (drop from old)))) old
+    spell_more x h e =
+        let ys = take count (drop from old) in
+        let long : length ys ≡ count = length-take count (drop from old) ∙ omega (arith, length-drop from old) in
+        let read : get_or area (from + i) 0 ≡ get_or ys i 0 = ap (λ l. get_or l (from + i) 0) inv ∙ before at (from + i) _ old (omega arith) (omega arith) ∙ sym (get_or-take count (drop from old) i 0 h ∙ get_or-drop from old i 0) in
+        over_map_more spells ys i (get_or ys i 0) x at area old inv (omega arith) (get_or_default ys i 0 (get_or ys i 0) (omega arith)) (e ∙ ap spells read) (omega arith)
+
+    pub spell_all : count ≤ i → area ≡ over at (map spells (take count (drop from old))) old
+    spell_all h = inv ∙ ap (λ l. over at (map spells l) old) (take_all i (take count (drop from old)) (omega (arith, length-take count (drop from old))))
+
+  -- the zero byte behind
+  pub spell_ends : (area old : List ℕ) (at from count : ℕ) → area ≡ over at (map spells (take count (drop from old))) old → from + count ≤ at → at + count < length old → set area (at + count) 0 ≡ respelled spells old at from count
+  spell_ends area old at from count e apart room =
+      let new = map spells (take count (drop from old)) in
+      let long : length new ≡ count = length-map (take count (drop from old)) spells ∙ length-take count (drop from old) ∙ omega (arith, length-drop from old) in
+      ap (λ l. set l (at + count) 0) e ∙ ap (λ n. set (over at new old) (at + n) 0) (sym long) ∙ over_more at new 0 old (omega arith)
 
 one_more : (here rest : Bool) (later : Bool) → not rest ≡ later → not (here && rest) ≡ (not here || later)
 one_more true rest later e = e
@@ -17,45 +56,3 @@ one_more false rest later e = refl
 pub changes-any : (spells : ℕ → ℕ) (name : List ℕ) → changes spells name ≡ list_any (λ b. not (eqb (spells b) b)) name
 changes-any spells [] = refl
 changes-any spells (b ∷ name) = one_more (eqb (spells b) b) _ _ (changes-any spells name)
-
--- what is written over what was written as long as it
-over_again : (at : ℕ) (a b old : List ℕ) → length a ≡ length b → at + length a ≤ length old → over at b (over at a old) ≡ over at b old
-over_again at a b old same room =
-    let n = at + length a in
-    let front = take at old ++ a in
-    let flen : length front ≡ n = simp (length-append, length-take) (omega arith) in
-    let split : over at a old ≡ front ++ drop n old = sym (append_assoc (take at old) a (drop n old)) in
-    let len : length (take at old) ≡ at = length-take at old ∙ omega arith in
-    let k : at + length b ≡ n = omega arith in
-    ap (λ l. l ++ (b ++ drop (at + length b) (over at a old))) (take_at (take at old) (a ++ drop n old) at len) ∙
-    ap (λ l. take at old ++ (b ++ l)) (ap (drop (at + length b)) split ∙ drop_at front (drop n old) (at + length b) (flen ∙ sym k) ∙ ap (λ m. drop m old) (sym k))
-
--- a name that was copied behind, spelled anew there and ended
-pub spelled_behind : (spells : ℕ → ℕ) (copied spelled old : List ℕ) (at from count : ℕ) → copied ≡ copy_within old from (from + count) at → spelled ≡ map spells (take (at + count - at) (drop at copied)) →
-    from + count ≤ at → at + count < length old → set (put_mid at (at + count - at) copied spelled) (at + count) 0 ≡ respelled spells old at from count
-spelled_behind spells copied spelled old at from count copies spells_them apart room =
-    let ys = take count (drop from old) in
-    let new = map spells ys in
-    let long : length ys ≡ count = length-take count (drop from old) ∙ omega (arith, length-drop from old) in
-    let n : from + count - from ≡ count = omega arith in
-    let k : at + count - at ≡ count = omega arith in
-    let here : copied ≡ over at ys old =
-    copies ∙
-    append_assoc (take at old) (take (from + count - from) (drop from old)) (drop (at + (from + count - from)) old) ∙
-    ap (λ m. take at old ++ (take m (drop from old) ++ drop (at + m) old)) n ∙
-    ap (λ m. take at old ++ (ys ++ drop (at + m) old)) (sym long) in
-    let len : length (take at old) ≡ at = length-take at old ∙ omega arith in
-    let read : take (at + count - at) (drop at copied) ≡ ys =
-    ap (λ l. take (at + count - at) (drop at l)) here ∙
-    ap (take (at + count - at)) (drop_at (take at old) (ys ++ drop (at + length ys) old) at len) ∙
-    take_at ys (drop (at + length ys) old) (at + count - at) (long ∙ sym k) in
-    let is : spelled ≡ new = spells_them ∙ ap (map spells) read in
-    let new_long : length new ≡ length ys = length-map ys spells in
-    let put : put_mid at (at + count - at) copied spelled ≡ over at new old =
-    part_put at (at + count - at) copied spelled (omega (arith, ap length is)) ∙
-    ap (λ l. over at l copied) is ∙
-    ap (over at new) here ∙
-    over_again at ys new old (sym new_long) (omega arith) in
-    ap (λ l. set l (at + count) 0) put ∙
-    ap (λ m. set (over at new old) (at + m) 0) (sym (new_long ∙ long)) ∙
-    over_more at new 0 old (omega arith)

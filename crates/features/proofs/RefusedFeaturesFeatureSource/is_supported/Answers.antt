@@ -1,6 +1,6 @@
-use Rattle.std.proofs.Common.{not, ap, ◌∙◌}
-use Rattle.features.proofs.Named.{names_any}
+use Rattle.std.proofs.Common.{refl}
+use Rattle.features.proofs.Named.{walk}
 use Rattle.features.proofs.RefusedFeaturesFeatureSource.is_supported.Goals as goal
 
-pub returns-clause-answer : goal.returns-clause-answer
-returns-clause-answer c = ap not (c.contains.ensures.value ∙ names_any c.args.self.now.refused.now c.args.feature)
+pub loop-refused-init : goal.loop-refused-init
+loop-refused-init c = (walk _ _, refl)

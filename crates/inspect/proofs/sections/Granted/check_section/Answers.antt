@@ -8,7 +8,7 @@ use Rattle.inspect.proofs.sections.Granted.check_section.Goals as goal
 
 pub returns : goal.returns
 returns c =
-    let es = c.args.self.now.sources.view.elements.now in
+    let es = c.args.self.now.sources.view.now.elements.now in
     let j = sources_job c.args.self.now.sources in
     let row = c.args.row.now in
     rw c.tail.ensures at c.check_each.ensures ∙

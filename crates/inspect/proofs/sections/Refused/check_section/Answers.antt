@@ -8,4 +8,4 @@ pub returns : goal.returns
 returns c =
     let row = c.args.row.now in
     rw c.tail.ensures at c.check_each.ensures ∙
-    first_entry (member_fault c.args.section) row.head.info c.requires (take (elements_of row.head.info) (drop row.first c.args.self.now.view.elements.now))
+    first_entry (member_fault c.args.section) row.head.info c.requires (take (elements_of row.head.info) (drop row.first c.args.self.now.view.now.elements.now))
