@@ -14,14 +14,26 @@ pub struct Line<'a> {
 impl Line<'_> {
     // Whether it is blank or a comment.
     pub fn is_passed_over(&self) -> bool {
-        self.text.starts_with(b"#") || self.text.trim_ascii().is_empty()
+        self.text.starts_with(b"#") || self.text.trim_ascii_start().is_empty()
     }
 }
 
-// Whether the first line of a text begins a table.
+// Whether the first line of a text is `new` between blanks, and so begins a table. Most lines are told apart by their first
+// letter, so that no line is cut for it.
 fn begins_table(text: &[u8]) -> bool {
+    let letter = text
+        .iter()
+        .find(|b| !matches!(**b, b' ' | b'\t' | b'\r' | b'\x0c'));
+    if !matches!(letter, Some(b'n')) {
+        return false;
+    }
     let first = text.split_inclusive(|b| *b == b'\n').next();
-    first.is_some_and(|line| matches!(line.trim_ascii(), b"new"))
+    first.is_some_and(is_new)
+}
+
+fn is_new(line: &[u8]) -> bool {
+    let line = line.trim_ascii_start();
+    line.starts_with(b"new") && matches!(line.trim_ascii_end(), b"new")
 }
 
 // How many bytes there are before the next line that begins a table, the first line not being asked.

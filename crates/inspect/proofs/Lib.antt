@@ -2,3 +2,4 @@ pub mod Faults
 pub mod Limits
 pub mod Numbers
 pub mod Standing
+pub mod Turns

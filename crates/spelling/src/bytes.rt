@@ -86,7 +86,7 @@ pub(crate) fn has_room(area: &[u8], at: usize, len: usize) -> bool
     at <= area.len() && len < area.len() - at
 }
 
-// By index, in one loop: a copy that is spelled anew where it stands takes 1.7 to 2 times the instructions.
+// By index, in one loop: a copy that is spelled anew where it stands takes 1.6 to 2 times the instructions.
 fn spell_on<S: Spelling>(area: &mut [u8], at: usize, from: usize, count: usize)
     requires before { from + count ≤ at }
     requires room { at + count < length area.old }
