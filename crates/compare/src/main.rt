@@ -30,7 +30,6 @@ fn run(rt: &HostRuntime) -> Result<(), Fault> {
     let mut elements = vec![in heap; Element::empty(); MOST_ELEMENTS]?;
     let mut names = vec![in heap; 0u8; MOST_STRINGS]?;
     let mut out = BufWriter::new(heap, rt.stdout())?;
-    // A script goes from a line `new` up to the next one. What stands before the first has no table.
     for script in Scripts::new(&input) {
         let begins = script.begins_table();
         let mut session = begins.then(|| Session::new(heap, &mut rows, &mut elements, &mut names));
